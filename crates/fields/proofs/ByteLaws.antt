@@ -1,0 +1,176 @@
+-- Laws of bytes: numbers out of their bytes and back, parts, fields back to back, pieces, equal runs.
+-- Assumes nothing.
+use mathlib.Core.Path.{_≡_, refl, sym, ap, ap₂, _∙_}
+use Prim.Native.Nat.{ℕ, zero, suc, _+_, _-_, _*_, _/_, _%_, _^_, _≤_, _<_}
+use native.Mathlib.Nat.{not-suc-le-zero, zero-add}
+use native.Mathlib.Omega.{arith}
+use mathlib.Core.Bool.{Bool, true, false, _&&_}
+use mathlib.Core.List.{List, [], _∷_, _++_, append-assoc}
+use lib.ListN.{length, take, drop, getD, replicate, length-append, length-take, length-drop, drop-of-length-le}
+use lib.Seq.{take-at, drop-at, drop-append-add, getD-drop, getD-take, drop-drop, take-take, take-nil, drop-nil, take-all}
+use lib.Dec.{T, eqb, eqb→eq, eqb-refl}
+use Rattle.fields.specs.Lists.{All, total}
+use Rattle.fields.specs.Bytes.{Bytes, AllBytes, part, num, bytesOf, zeros, same, join, pieces, start, Fit}
+
+-- ---- numbers
+
+pub num-bytesOf : (w n : ℕ) → n < 256 ^ w → num (bytesOf w n) ≡ n
+unfolding num bytesOf
+num-bytesOf zero n h = omega arith
+num-bytesOf (suc w) n h = omega (arith, num-bytesOf w (n / 256) (omega arith))
+
+pub length-bytesOf : (w n : ℕ) → length (bytesOf w n) ≡ w
+unfolding bytesOf
+length-bytesOf zero n = refl
+length-bytesOf (suc w) n = ap suc (length-bytesOf w (n / 256))
+
+pub bytesOf-num : (s : Bytes) → AllBytes s → bytesOf (length s) (num s) ≡ s
+unfolding num bytesOf
+bytesOf-num [] h = refl
+bytesOf-num (b ∷ bs) h =
+    let small : b < 256 = h 0 in
+    let low : (b + 256 * num bs) % 256 ≡ b = omega arith in
+    let high : (b + 256 * num bs) / 256 ≡ num bs = omega arith in
+    rw (low, high, bytesOf-num bs (λ i. h (suc i)))
+
+num-lt : (w : ℕ) (s : Bytes) → AllBytes s → num (take w s) < 256 ^ w
+unfolding num
+num-lt zero s h = omega arith
+num-lt (suc w) [] h = omega (arith, num-lt w [] h)
+num-lt (suc w) (b ∷ bs) h = omega (arith, h 0, num-lt w bs (λ i. h (suc i)))
+
+pub drop-bytes : (at : ℕ) (s : Bytes) → AllBytes s → AllBytes (drop at s)
+drop-bytes at s h i = rw getD-drop (h (at + i))
+
+-- a number of w bytes read in a file is below 256 ^ w
+pub num-part-lt : (at w : ℕ) (s : Bytes) → AllBytes s → num (part at w s) < 256 ^ w
+unfolding part
+num-part-lt at w s h = num-lt w (drop at s) (drop-bytes at s h)
+
+-- a number byte by byte, as code reads it
+pub num-part-suc : (at w : ℕ) (s : Bytes) → num (part at (suc w) s) ≡ getD s at 0 + 256 * num (part (suc at) w s)
+unfolding num part
+num-part-suc zero w [] = rw (take-nil w)
+num-part-suc (suc at) w [] = rw (take-nil w)
+num-part-suc zero w (b ∷ bs) = refl
+num-part-suc (suc at) w (b ∷ bs) = num-part-suc at w bs
+
+pub num-part-zero : (at : ℕ) (s : Bytes) → num (part at 0 s) ≡ 0
+unfolding num part
+num-part-zero at s = refl
+
+-- one byte is its own number
+pub num-part-one : (at : ℕ) (s : Bytes) → num (part at 1 s) ≡ getD s at 0
+num-part-one at s = omega (arith, num-part-suc at 0 s, num-part-zero (suc at) s)
+
+pub num-past : (at w : ℕ) (s : Bytes) → length s ≤ at → num (part at w s) ≡ 0
+unfolding num part
+num-past at w s h = rw (drop-of-length-le s {i = at} h, take-nil w)
+
+-- ---- parts
+
+pub length-part : (at w : ℕ) (s : Bytes) → at + w ≤ length s → length (part at w s) ≡ w
+unfolding part
+length-part at w s h = simp (length-take, length-drop) (omega arith)
+
+pub length-part-le : (at w : ℕ) (s : Bytes) → length (part at w s) ≤ w
+unfolding part
+length-part-le at w s = simp (length-take, length-drop) (omega arith)
+
+-- the part that a front piece is
+pub part-front : (w : ℕ) (x y : Bytes) → length x ≡ w → part 0 w (x ++ y) ≡ x
+unfolding part
+part-front w x y h = take-at x y w h
+
+-- a part that lies behind a front piece
+pub part-behind : (n at w : ℕ) (x y : Bytes) → length x ≡ n → part (n + at) w (x ++ y) ≡ part at w y
+unfolding part
+part-behind n at w x y h = rw (← h, drop-append-add)
+
+pub part-past : (at w : ℕ) (s : Bytes) → length s ≤ at → part at w s ≡ []
+unfolding part
+part-past at w s h = rw (drop-of-length-le s {i = at} h, take-nil w)
+
+-- a part of what stands behind a place
+pub part-drop : (n at w : ℕ) (s : Bytes) → part at w (drop n s) ≡ part (n + at) w s
+unfolding part
+part-drop n at w s = rw drop-drop
+
+take-drop-take : (i k n : ℕ) (l : Bytes) → i + k ≤ n → take k (drop i (take n l)) ≡ take k (drop i l)
+take-drop-take zero k n l h = take-take k n l (omega arith)
+take-drop-take (suc i) k zero l h = absurd (not-suc-le-zero {n = i + k} (omega arith))
+take-drop-take (suc i) k (suc n) [] h = refl
+take-drop-take (suc i) k (suc n) (x ∷ xs) h = take-drop-take i k n xs (omega arith)
+
+-- a part of a prefix, and a part of a part
+pub part-take : (at w n : ℕ) (s : Bytes) → at + w ≤ n → part at w (take n s) ≡ part at w s
+unfolding part
+part-take at w n s h = take-drop-take at w n s h
+
+pub part-part : (at w i k : ℕ) (s : Bytes) → i + k ≤ w → part i k (part at w s) ≡ part (at + i) k s
+part-part at w i k s h =
+    let e : part i k (part at w s) ≡ part i k (drop at s) = unfold part in part-take i k w (drop at s) h in
+    e ∙ part-drop at i k s
+
+pub getD-part : (at w i : ℕ) (s : Bytes) → i < w → getD (part at w s) i 0 ≡ getD s (at + i) 0
+unfolding part
+getD-part at w i s h = rw (getD-take, getD-drop)
+
+-- ---- equal runs
+
+and-parts : (a b : Bool) → T (a && b) → T a × T b
+and-parts true b t = (tt, t)
+and-parts false b t = absurd t
+
+and-both : (a b : Bool) → T a → T b → T (a && b)
+and-both true b t u = u
+and-both false b t u = absurd t
+
+pub same→eq : (x y : Bytes) → T (same x y) → x ≡ y
+unfolding same
+same→eq [] [] t = refl
+same→eq [] (y ∷ ys) t = absurd t
+same→eq (x ∷ xs) [] t = absurd t
+same→eq (x ∷ xs) (y ∷ ys) t =
+    ap₂ {C = Bytes} (λ (a : ℕ) (r : Bytes). a ∷ r) (eqb→eq x y (and-parts (eqb x y) (same xs ys) t .0))
+    (same→eq xs ys (and-parts (eqb x y) (same xs ys) t .1))
+
+pub same-refl : (x : Bytes) → T (same x x)
+unfolding same
+same-refl [] = tt
+same-refl (x ∷ xs) = and-both (eqb x x) (same xs xs) (eqb-refl x) (same-refl xs)
+
+-- ---- fields back to back
+
+-- each field is read back at its place and width, whatever follows
+pub field-back : (ws : List ℕ) (fs : List Bytes) (rest : Bytes) (i : ℕ) → Fit ws fs → i < length ws
+    → part (start i ws) (getD ws i 0) (join fs ++ rest) ≡ getD fs i []
+unfolding join
+field-back [] fs rest i f h = absurd (not-suc-le-zero h)
+field-back (w ∷ ws) [] rest i f h = absurd f
+field-back (w ∷ ws) (x ∷ xs) rest zero f h = rw append-assoc (part-front w x (join xs ++ rest) (f .0))
+field-back (w ∷ ws) (x ∷ xs) rest (suc i) f h =
+    rw append-assoc (part-behind w (start i ws) (getD ws i 0) x (join xs ++ rest) (f .0) ∙ field-back ws xs rest i (f .1) (omega arith))
+
+pub length-join : (ws : List ℕ) (fs : List Bytes) → Fit ws fs → length (join fs) ≡ total (λ n. n) ws
+unfolding join total
+length-join [] [] f = refl
+length-join [] (x ∷ xs) f = absurd f
+length-join (w ∷ ws) [] f = absurd f
+length-join (w ∷ ws) (x ∷ xs) f = simp (length-append, f .0, length-join ws xs (f .1))
+
+-- ---- pieces of one width
+
+pub length-pieces : (n w : ℕ) (s : Bytes) → length (pieces n w s) ≡ n
+unfolding pieces
+length-pieces zero w s = refl
+length-pieces (suc n) w s = ap suc (length-pieces n w (drop w s))
+
+-- piece i, by its place
+pub pieces-at : (n w i : ℕ) (s : Bytes) → i < n → getD (pieces n w s) i [] ≡ part (i * w) w s
+unfolding pieces
+pieces-at zero w i s h = absurd (not-suc-le-zero h)
+pieces-at (suc n) w zero s h = let e : 0 * w ≡ 0 = omega arith in rw e (unfold part in refl)
+pieces-at (suc n) w (suc i) s h =
+    let e : suc i * w ≡ w + i * w = omega arith in
+    rw e (pieces-at n w i (drop w s) (omega arith) ∙ part-drop w (i * w) w s)

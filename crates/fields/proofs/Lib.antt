@@ -1,0 +1,6 @@
+pub mod ListLaws
+pub mod ByteLaws
+pub mod StoreLaws
+pub mod CopyLaws
+pub mod TextLaws
+pub mod CheckLaws

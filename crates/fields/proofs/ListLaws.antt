@@ -1,0 +1,90 @@
+-- Laws of lists: what is kept, sums, and what holds of every element.
+-- Assumes nothing.
+use mathlib.Core.Path.{_≡_, refl, sym, ap, _∙_, fun-ext}
+use Prim.Native.Nat.{ℕ, zero, suc, _+_, _≤_}
+use native.Mathlib.Omega.{arith}
+use mathlib.Core.Bool.{Bool, true, false, _&&_, and-comm}
+use mathlib.Core.List.{List, [], _∷_, _++_}
+use lib.ListN.{length}
+use Rattle.fields.specs.Lists.{All, kept, consIf, total, some}
+
+module _ {ℓ} {A : Type ℓ} where
+  All-consIf : (P : A → Type 0) (b : Bool) (x : A) (xs : List A) → (b ≡ true → P x) → All P xs → All P (consIf b x xs)
+  unfolding consIf
+  All-consIf P true x xs h hs = (h refl, hs)
+  All-consIf P false x xs h hs = hs
+
+  pub All-kept : (P : A → Type 0) (p : A → Bool) (l : List A) → All P l → All P (kept p l)
+  unfolding kept
+  All-kept P p [] h = tt
+  All-kept P p (x ∷ xs) h = All-consIf P (p x) x (kept p xs) (λ _. h .0) (All-kept P p xs (h .1))
+
+  -- what is kept passes
+  pub kept-pass : (p : A → Bool) (l : List A) → All (λ x. p x ≡ true) (kept p l)
+  unfolding kept
+  kept-pass p [] = tt
+  kept-pass p (x ∷ xs) = All-consIf (λ x. p x ≡ true) (p x) x (kept p xs) (λ e. e) (kept-pass p xs)
+
+  -- where all pass, all are kept
+  pub kept-all : (p : A → Bool) (l : List A) → All (λ x. p x ≡ true) l → kept p l ≡ l
+  unfolding kept consIf
+  kept-all p [] h = refl
+  kept-all p (x ∷ xs) h = rw (h .0) (ap (λ (r : List A). x ∷ r) (kept-all p xs (h .1)))
+
+  pub kept-kept : (p : A → Bool) (l : List A) → kept p (kept p l) ≡ kept p l
+  kept-kept p l = kept-all p (kept p l) (kept-pass p l)
+
+  total-consIf : (f : A → ℕ) (b : Bool) (x : A) (xs : List A) → total f (consIf b x xs) ≤ f x + total f xs
+  unfolding consIf total
+  total-consIf f true x xs = omega arith
+  total-consIf f false x xs = omega arith
+
+  -- a sum over what is kept is at most the sum over all
+  pub total-kept : (f : A → ℕ) (p : A → Bool) (l : List A) → total f (kept p l) ≤ total f l
+  unfolding kept total
+  total-kept f p [] = omega arith
+  total-kept f p (x ∷ xs) = omega (arith, total-consIf f (p x) x (kept p xs), total-kept f p xs)
+
+  length-consIf : (b : Bool) (x : A) (xs : List A) → length (consIf b x xs) ≤ suc (length xs)
+  unfolding consIf
+  length-consIf true x xs = omega arith
+  length-consIf false x xs = omega arith
+
+  pub length-kept : (p : A → Bool) (l : List A) → length (kept p l) ≤ length l
+  unfolding kept
+  length-kept p [] = omega arith
+  length-kept p (x ∷ xs) = omega (arith, length-consIf (p x) x (kept p xs), length-kept p xs)
+
+  consIf-append : (b : Bool) (x : A) (xs ys : List A) → consIf b x (xs ++ ys) ≡ consIf b x xs ++ ys
+  unfolding consIf
+  consIf-append true x xs ys = refl
+  consIf-append false x xs ys = refl
+
+  pub kept-append : (p : A → Bool) (xs ys : List A) → kept p (xs ++ ys) ≡ kept p xs ++ kept p ys
+  unfolding kept
+  kept-append p [] ys = refl
+  kept-append p (x ∷ xs) ys = rw (kept-append p xs ys) (consIf-append (p x) x (kept p xs) (kept p ys))
+
+  consIf-both : (p : A → Bool) (x : A) (b c : Bool) → p x ≡ c → (xs : List A) → kept p (consIf b x xs) ≡ consIf (b && c) x (kept p xs)
+  unfolding kept consIf
+  consIf-both p x true c e xs = ap (λ (d : Bool). consIf d x (kept p xs)) e
+  consIf-both p x false c e xs = refl
+
+  -- what one test leaves of what another leaves is what both leave
+  pub kept-both : (p q : A → Bool) (l : List A) → kept p (kept q l) ≡ kept (λ x. q x && p x) l
+  unfolding kept
+  kept-both p q [] = refl
+  kept-both p q (x ∷ xs) = consIf-both p x (q x) (p x) refl (kept q xs) ∙ ap (consIf (q x && p x) x) (kept-both p q xs)
+
+  pub kept-comm : (p q : A → Bool) (l : List A) → kept p (kept q l) ≡ kept q (kept p l)
+  kept-comm p q l = kept-both p q l ∙ ap (λ (t : A → Bool). kept t l) (fun-ext (λ x. and-comm (q x) (p x))) ∙ sym (kept-both q p l)
+
+  -- the same test, put another way
+  pub some-same : (p q : A → Bool) (l : List A) → All (λ x. p x ≡ q x) l → some p l ≡ some q l
+  unfolding some
+  some-same p q [] h = refl
+  some-same p q (x ∷ xs) h = rw (h .0, some-same p q xs (h .1))
+
+  pub all-of : (P : A → Type 0) (l : List A) → ((x : A) → P x) → All P l
+  all-of P [] h = tt
+  all-of P (x ∷ xs) h = (h x, all-of P xs h)

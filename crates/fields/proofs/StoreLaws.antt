@@ -1,0 +1,82 @@
+-- Laws of bytes that were stored at a place: they are read back, and what lies outside stays.
+-- Assumes nothing.
+use mathlib.Core.Path.{_≡_, refl, sym, ap, _∙_}
+use mathlib.Core.Logic.{_⊎_, inl, inr}
+use Prim.Native.Nat.{ℕ, zero, suc, _+_, _-_, _^_, _≤_, _<_, min}
+use native.Mathlib.Nat.{eq-zero-or-pos}
+use native.Mathlib.Omega.{arith}
+use mathlib.Core.List.{List, [], _∷_, _++_, append-assoc, append-nil}
+use lib.ListN.{length, take, drop, getD, set, length-append, length-set, length-take, length-drop, replicate, drop-of-length-le}
+use lib.Seq.{take-all, sets, sets-eq, length-sets, paste, length-take-le, take-at, drop-at, set-out, drop-set-lt, drop-set-add, take-set-le}
+use Rattle.fields.specs.Bytes.{Bytes, part, num, bytesOf, zeros}
+use Rattle.fields.proofs.ByteLaws.{num-bytesOf, length-bytesOf}
+
+-- one run behind another
+pub sets-append : (d : Bytes) (at : ℕ) (xs ys : Bytes) → sets d at (xs ++ ys) ≡ sets (sets d at xs) (at + length xs) ys
+sets-append d at [] ys = let e : at + 0 ≡ at = omega arith in rw e
+sets-append d at (x ∷ xs) ys =
+    let e : at + suc (length xs) ≡ suc at + length xs = omega arith in
+    rw e (sets-append (set d at x) (suc at) xs ys)
+
+-- past the end nothing is stored
+pub sets-out : (d : Bytes) (at : ℕ) (xs : Bytes) → length d ≤ at → sets d at xs ≡ d
+sets-out d at [] h = refl
+sets-out d at (x ∷ xs) h = rw (set-out d at x h) (sets-out d (suc at) xs (omega arith))
+
+pub sets-room : (d : Bytes) (at n : ℕ) (xs : Bytes) → length d ≤ at + n → sets d at (take n xs) ≡ sets d at xs
+sets-room d at zero xs h = sym (sets-out d at xs (omega arith))
+sets-room d at (suc n) [] h = refl
+sets-room d at (suc n) (x ∷ xs) h = sets-room (set d at x) (suc at) n xs (simp length-set (omega arith))
+
+-- as many bytes as there is room for
+pub sets-least : (d : Bytes) (at n : ℕ) (xs : Bytes) → at ≤ length d → n ≡ min (length xs) (length d - at) → sets d at (take n xs) ≡ sets d at xs
+sets-least d at n xs h e = go (eq-zero-or-pos (length d - (at + n)))
+  where
+    go : (length d - (at + n) ≡ 0) ⊎ (0 < length d - (at + n)) → sets d at (take n xs) ≡ sets d at xs
+    go (inl k) = sets-room d at n xs (omega arith)
+    go (inr k) = ap (sets d at) (take-all n xs (omega arith))
+
+-- a copy of n bytes is a run of stores
+pub paste-sets : (d : Bytes) (at : ℕ) (s : Bytes) (n : ℕ) → n ≤ length s → at + n ≤ length d → paste d at s n ≡ sets d at (take n s)
+paste-sets d at s n hs hd =
+    let e : length (take n s) ≡ n = length-take-le n s hs in
+    sym (sets-eq (take n s) d at (rw e hd) ∙ ap (λ (k : ℕ). take at d ++ take n s ++ drop (at + k) d) e)
+
+-- ---- what was stored is read back
+
+pub part-stored : (at w : ℕ) (b s : Bytes) → length b ≡ w → at + w ≤ length s → part at w (sets s at b) ≡ b
+unfolding part
+part-stored at w b s e h =
+    let front : length (take at s) ≡ at = length-take-le at s (omega arith) in
+    let whole : sets s at b ≡ take at s ++ (b ++ drop (at + length b) s) = sets-eq b s at (rw e h) ∙ append-assoc (take at s) b (drop (at + length b) s) in
+    rw (whole, drop-at (take at s) (b ++ drop (at + length b) s) at front) (take-at b (drop (at + length b) s) w e)
+
+-- a number of any width, at any place that has room for it
+pub number-stored : (at w n : ℕ) (s : Bytes) → n < 256 ^ w → at + w ≤ length s → num (part at w (sets s at (bytesOf w n))) ≡ n
+number-stored at w n s small h = rw (part-stored at w (bytesOf w n) s (length-bytesOf w n) h) (num-bytesOf w n small)
+
+-- ---- what lies outside stays
+
+-- a part that ends before the place i, or begins behind it
+abbrev pub Apart : ℕ → ℕ → ℕ → ℕ → Type 0
+Apart a w at n = (a + w ≤ at) ⊎ (at + n ≤ a)
+
+part-set : (a w i v : ℕ) (s : Bytes) → Apart a w i 1 → part a w (set s i v) ≡ part a w s
+unfolding part
+part-set a w i v s (inl h) =
+    let e : i ≡ a + (i - a) = omega arith in
+    rw e (rw drop-set-add (take-set-le w (drop a s) (i - a) v (omega arith)))
+part-set a w i v s (inr h) = rw (drop-set-lt a s i v (omega arith))
+
+first-apart : (a w at n : ℕ) → Apart a w at (suc n) → Apart a w at 1
+first-apart a w at n (inl h) = inl h
+first-apart a w at n (inr h) = inr (omega arith)
+
+rest-apart : (a w at n : ℕ) → Apart a w at (suc n) → Apart a w (suc at) n
+rest-apart a w at n (inl h) = inl (omega arith)
+rest-apart a w at n (inr h) = inr (omega arith)
+
+pub part-outside : (a w at : ℕ) (b s : Bytes) → Apart a w at (length b) → part a w (sets s at b) ≡ part a w s
+part-outside a w at [] s h = refl
+part-outside a w at (x ∷ xs) s h =
+    part-outside a w (suc at) xs (set s at x) (rest-apart a w at (length xs) h) ∙ part-set a w at x s (first-apart a w at (length xs) h)

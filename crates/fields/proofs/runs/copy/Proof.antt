@@ -1,0 +1,65 @@
+-- `fields::runs::copy` meets its contract. Assumes nothing.
+use mathlib.Core.Path.{_≡_, sym, _∙_}
+use Prim.Native.Nat.{ℕ, _+_, _-_, _≤_, min}
+use native.Mathlib.Omega.{arith}
+use lib.ListN.{length}
+use lib.Seq.{paste, sets}
+use Rattle.fields.specs.Bytes.{Bytes}
+use Rattle.fields.proofs.StoreLaws.{sets-out, paste-sets, sets-least}
+use borrow.Author.Needs.{needs}
+use Rattle.fields.proofs.runs.copy.Statement.{statement}
+use Rattle.fields.proofs.runs.copy.Tie as tie
+use Rattle.fields.proofs.runs.copy.Reads as reads
+use Rattle.fields.proofs.runs.copy.Lts as lts
+use Rattle.fields.proofs.runs.copy_blocks.Reads as copy-blocks-reads
+use Rattle.fields.proofs.runs.copy_bytes.Reads as copy-bytes-reads
+use Rattle.fields.proofs.runs.least.Reads as least-reads
+
+-- as many bytes as there is room for
+as-far : (d : Bytes) (at : ℕ) (s : Bytes) (n : ℕ) → at ≤ length d → n ≡ min (length s) (length d - at) → paste d at s n ≡ sets d at s
+as-far d at s n h e = paste-sets d at s n (omega arith) (omega arith) ∙ sets-least d at n s h e
+
+returns : tie.Need-returns
+returns c = let a = c .before .before .before .args in sym (sets-out (a .dst .now) (a .at) (a .src .now) (omega arith))
+
+sub-least : tie.Need-sub-least
+sub-least c = search needs
+
+least-requires : tie.Need-least-requires
+least-requires c κs = search needs
+
+copy-bytes-requires : tie.Need-copy-bytes-requires
+copy-bytes-requires c κs = search needs
+
+copy-blocks-requires : tie.Need-copy-blocks-requires
+copy-blocks-requires c κs = search needs
+
+same-length : tie.Need-same-length
+same-length c = search needs
+
+returns-2 : tie.Need-returns-2
+returns-2 c =
+    let a = c .before .before .before .before .before .before .before .before .before .args in
+    c .before .before .copy-bytes .ensures ∙ as-far (a .dst .now) (a .at) (a .src .now) _ (omega arith) (c .before .before .before .before .before .least .ensures)
+
+same-length-2 : tie.Need-same-length-2
+same-length-2 c = search needs
+
+returns-3 : tie.Need-returns-3
+returns-3 c =
+    let a = c .before .before .before .before .before .before .before .before .before .args in
+    c .before .before .copy-blocks .ensures ∙ as-far (a .dst .now) (a .at) (a .src .now) _ (omega arith) (c .before .before .before .before .before .least .ensures)
+
+pub copy-spec : {M : Type 1} → statement M
+copy-spec =
+    tie.close
+    (tie.spec
+    returns
+    sub-least
+    least-requires
+    copy-bytes-requires
+    copy-blocks-requires
+    same-length
+    returns-2
+    same-length-2
+    returns-3)

@@ -1,0 +1,47 @@
+-- `fields::text::same_cut` meets its contract. Assumes nothing.
+use mathlib.Core.Path.{_≡_, _∙_}
+use denote.Ref.{now}
+use Rattle.fields.specs.Text.{cut}
+use Rattle.fields.proofs.TextLaws.{cut-front}
+use borrow.Author.Needs.{needs}
+use Rattle.fields.proofs.text.same_cut.Statement.{statement}
+use Rattle.fields.proofs.text.same_cut.Tie as tie
+use Rattle.fields.proofs.text.same_cut.Reads as reads
+use Rattle.fields.proofs.text.same_cut.Lts as lts
+use Rattle.fields.proofs.runs.part_at.Reads as part-at-reads
+use Rattle.fields.proofs.runs.same_bytes.Reads as same-bytes-reads
+use Rattle.fields.proofs.text.cut_length.Reads as cut-length-reads
+
+cut-length-requires : tie.Need-cut-length-requires
+cut-length-requires c κs = search needs
+
+part-at-requires : tie.Need-part-at-requires
+part-at-requires c κs = search needs
+
+cut-length-requires-2 : tie.Need-cut-length-requires-2
+cut-length-requires-2 c κs = search needs
+
+part-at-requires-2 : tie.Need-part-at-requires-2
+part-at-requires-2 c κs = search needs
+
+same-bytes-requires : tie.Need-same-bytes-requires
+same-bytes-requires c κs = search needs
+
+returns : tie.Need-returns
+returns c =
+    let a = c .before .before .before .before .before .before .before .args in
+    let one : now (c .before .before .before .part-at .result) ≡ cut (a .a .now) =
+    c .before .before .before .part-at .ensures ∙ rw (c .before .before .before .before .cut-length .ensures) (cut-front (a .a .now)) in
+    let two : now (c .before .part-at2 .result) ≡ cut (a .b .now) = c .before .part-at2 .ensures ∙ rw (c .before .before .cut-length2 .ensures) (cut-front (a .b .now)) in
+    c .same-bytes .ensures ∙ rw (one, two)
+
+pub same-cut-spec : {M : Type 1} → statement M
+same-cut-spec =
+    tie.close
+    (tie.spec
+    cut-length-requires
+    part-at-requires
+    cut-length-requires-2
+    part-at-requires-2
+    same-bytes-requires
+    returns)
