@@ -1,6 +1,5 @@
 pub mod ListLaws
 pub mod ByteLaws
 pub mod StoreLaws
-pub mod CopyLaws
 pub mod TextLaws
 pub mod CheckLaws

@@ -1,4 +1,4 @@
--- `fields::runs::same_bytes` meets its contract. The loop's invariant: whether the runs are equal is whether the rests from i on are.
+-- `runs::same_bytes` meets its contract. The loop's invariant: whether the runs are equal is whether the rests from i on are.
 -- Assumes nothing.
 use mathlib.Core.Path.{_≡_, refl, sym, ap, _∙_}
 use mathlib.Core.Bool.{Bool, true, false, _&&_}
@@ -10,9 +10,9 @@ use borrow.Author.Tests.{eq-eqb, ne-eqb}
 use lib.Dec.{eqb}
 use lib.ListN.{length, getD, drop, drop-of-length-le}
 use lib.Seq.{drop-cons}
 use Rattle.fields.specs.Bytes.{Bytes, same}
-use Rattle.fields.proofs.runs.same_bytes.Statement.{statement}
-use Rattle.fields.proofs.runs.same_bytes.Tie as tie
+use Rattle.runs.proofs.same_bytes.Statement.{statement}
+use Rattle.runs.proofs.same_bytes.Tie as tie
 
 and-false : (b : Bool) → b && false ≡ false
 and-false true = refl

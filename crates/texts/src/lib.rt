@@ -2,12 +2,8 @@
 ghost use mathlib.Core.Path.{_≡_};
 ghost use lib.ListN.{length};
 ghost use lib.Seq.{sets};
 ghost use Rattle.fields.specs.Bytes.{same};
 ghost use Rattle.fields.specs.Text.{cut, padded};
-use crate::runs::copy;
-use crate::runs::part_at;
-use crate::runs::same_bytes;
-use crate::runs::zero;
 
 // The length of a text's cut.
 pub fn cut_length(text: &[u8]) -> usize
@@ -27,7 +23,10 @@ pub fn cut_length(text: &[u8]) -> usize
 pub fn same_cut(a: &[u8], b: &[u8]) -> bool
     ensures { λ r. ⌜ r ≡ same (cut (now (a .entry))) (cut (now (b .entry))) ⌝ }
 {
-    same_bytes(part_at(a, 0, cut_length(a)), part_at(b, 0, cut_length(b)))
+    runs::same_bytes(
+        runs::part_at(a, 0, cut_length(a)),
+        runs::part_at(b, 0, cut_length(b)),
+    )
 }
 
 // Writes a text's cut into a field of `width` bytes, padded with zeros.
@@ -38,8 +37,8 @@ pub fn put_text(dst: &mut [u8], at: usize, width: usize, text: &[u8])
         return;
     }
     let n = cut_length(text);
-    copy(part_at(text, 0, n), dst, at);
+    runs::copy(runs::part_at(text, 0, n), dst, at);
     if n < width {
-        zero(dst, at + n, width - n);
+        runs::zero(dst, at + n, width - n);
     }
 }

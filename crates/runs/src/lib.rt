@@ -1,16 +1,9 @@
 // Runs of bytes: parts, comparing, copying and zeroing. What would lie past the end is left out.
 ghost use mathlib.Core.Path.{_≡_};
-ghost use Prim.Native.Nat.{_+_, _≤_, min};
+ghost use Prim.Native.Nat.{_+_, _≤_};
 ghost use lib.ListN.{length, drop};
 ghost use lib.Seq.{paste, sets};
 ghost use Rattle.fields.specs.Bytes.{part, same, zeros};
-
-// The smaller of the two.
-fn least(a: usize, b: usize) -> usize
-    ensures { λ r. ⌜ r ≡ min a b ⌝ }
-{
-    if a < b { a } else { b }
-}
 
 // The n bytes from a place on, or those of them that there are.
 pub fn part_at(s: &[u8], at: usize, n: usize) -> &[u8]
@@ -90,7 +83,7 @@ pub fn copy(src: &[u8], dst: &mut [u8], at: usize)
     if dst.len() <= at {
         return;
     }
-    let n = least(src.len(), dst.len() - at);
+    let n = fields::numbers::least(src.len(), dst.len() - at);
     if n < 16 {
         copy_bytes(src, n, dst, at);
     } else {
@@ -105,7 +98,7 @@ pub fn zero(dst: &mut [u8], at: usize, n: usize)
     if dst.len() <= at {
         return;
     }
-    let end = at + least(n, dst.len() - at);
+    let end = at + fields::numbers::least(n, dst.len() - at);
     let mut i = at;
     while i < end {
         dst[i] = 0;

@@ -1,16 +1,16 @@
--- `fields::text::same_cut` meets its contract. Assumes nothing.
+-- `texts::same_cut` meets its contract. Assumes nothing.
 use mathlib.Core.Path.{_≡_, _∙_}
 use denote.Ref.{now}
 use Rattle.fields.specs.Text.{cut}
 use Rattle.fields.proofs.TextLaws.{cut-front}
 use borrow.Author.Needs.{needs}
-use Rattle.fields.proofs.text.same_cut.Statement.{statement}
-use Rattle.fields.proofs.text.same_cut.Tie as tie
-use Rattle.fields.proofs.text.same_cut.Reads as reads
-use Rattle.fields.proofs.text.same_cut.Lts as lts
-use Rattle.fields.proofs.runs.part_at.Reads as part-at-reads
-use Rattle.fields.proofs.runs.same_bytes.Reads as same-bytes-reads
-use Rattle.fields.proofs.text.cut_length.Reads as cut-length-reads
+use Rattle.texts.proofs.same_cut.Statement.{statement}
+use Rattle.texts.proofs.same_cut.Tie as tie
+use Rattle.texts.proofs.same_cut.Reads as reads
+use Rattle.texts.proofs.same_cut.Lts as lts
+use Rattle.runs.proofs.part_at.Reads as part-at-reads
+use Rattle.runs.proofs.same_bytes.Reads as same-bytes-reads
+use Rattle.texts.proofs.cut_length.Reads as cut-length-reads
 
 cut-length-requires : tie.Need-cut-length-requires
 cut-length-requires c κs = search needs

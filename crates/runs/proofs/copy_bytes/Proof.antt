@@ -1,4 +1,4 @@
--- `fields::runs::copy_bytes` meets its contract. The invariant of its loop: `dst` is what it was with the first i bytes pasted in, and is as long as it was.
+-- `runs::copy_bytes` meets its contract. The invariant of its loop: `dst` is what it was with the first i bytes pasted in, and is as long as it was.
 -- Assumes nothing.
 use mathlib.Core.Path.{_≡_, refl, sym, ap, _∙_}
 use mathlib.Core.List.{List}
@@ -8,11 +8,11 @@ use native.Mathlib.Nat.{le-antisymm}
 use borrow.Author.Needs.{needs}
 use lib.ListN.{length, drop, getD, set, length-set}
 use lib.Seq.{paste, paste-zero}
-use Rattle.fields.proofs.CopyLaws.{paste-next}
-use Rattle.fields.proofs.runs.copy_bytes.Statement.{statement}
-use Rattle.fields.proofs.runs.copy_bytes.Tie as tie
-use Rattle.fields.proofs.runs.copy_bytes.Reads as reads
-use Rattle.fields.proofs.runs.copy_bytes.Lts as lts
+use Rattle.runs.proofs.CopyLaws.{paste-next}
+use Rattle.runs.proofs.copy_bytes.Statement.{statement}
+use Rattle.runs.proofs.copy_bytes.Tie as tie
+use Rattle.runs.proofs.copy_bytes.Reads as reads
+use Rattle.runs.proofs.copy_bytes.Lts as lts
 
 abbrev Inv-loop : tie.InvT-loop
 Inv-loop src n dst₀ at i₀ dst i = (i ≤ n) × (length dst ≡ length dst₀) × (dst ≡ paste dst₀ at src i)

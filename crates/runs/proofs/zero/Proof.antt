@@ -1,4 +1,4 @@
--- `fields::runs::zero` meets its contract. The loop's invariant: what the zeros still to write make of dst is what all make of it.
+-- `runs::zero` meets its contract. The loop's invariant: what the zeros still to write make of dst is what all make of it.
 -- Assumes nothing.
 use mathlib.Core.Path.{_≡_, refl, sym, ap, _∙_}
 use Prim.Native.Nat.{ℕ, zero, suc, _+_, _-_, _≤_, _<_, min}
@@ -7,13 +7,13 @@ use borrow.Author.Needs.{needs}
 use mathlib.Core.List.{_∷_}
 use lib.ListN.{length, take, set, length-set, length-replicate}
 use lib.Seq.{sets}
 use Rattle.fields.specs.Bytes.{Bytes, zeros}
 use Rattle.fields.proofs.StoreLaws.{sets-out, sets-least}
-use Rattle.fields.proofs.runs.zero.Statement.{statement}
-use Rattle.fields.proofs.runs.zero.Tie as tie
-use Rattle.fields.proofs.runs.zero.Reads as reads
-use Rattle.fields.proofs.runs.zero.Lts as lts
-use Rattle.fields.proofs.runs.least.Reads as least-reads
+use Rattle.runs.proofs.zero.Statement.{statement}
+use Rattle.runs.proofs.zero.Tie as tie
+use Rattle.runs.proofs.zero.Reads as reads
+use Rattle.runs.proofs.zero.Lts as lts
+use Rattle.fields.proofs.numbers.least.Reads as least-reads
 
 -- one zero more is written
 turn : (d whole : Bytes) (i end : ℕ) → i < end → sets d i (zeros (end - i)) ≡ whole → sets (set d i 0) (i + 1) (zeros (end - (i + 1))) ≡ whole

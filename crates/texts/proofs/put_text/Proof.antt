@@ -1,4 +1,4 @@
--- `fields::text::put_text` meets its contract. Assumes nothing.
+-- `texts::put_text` meets its contract. Assumes nothing.
 use mathlib.Core.Path.{_≡_, sym, ap, _∙_}
 use Prim.Native.Nat.{ℕ, _+_, _-_, _≤_, _<_}
 use native.Mathlib.Omega.{arith}
@@ -7,18 +7,18 @@ use mathlib.Core.List.{_++_, append-nil}
 use denote.Ref.{now}
 use lib.ListN.{length}
 use lib.Seq.{sets}
 use Rattle.fields.specs.Bytes.{Bytes, part, zeros}
 use Rattle.fields.specs.Text.{cut, padded}
 use Rattle.fields.proofs.StoreLaws.{sets-out, sets-append}
 use Rattle.fields.proofs.TextLaws.{cut-front, length-cut}
-use Rattle.fields.proofs.text.put_text.Statement.{statement}
-use Rattle.fields.proofs.text.put_text.Tie as tie
-use Rattle.fields.proofs.text.put_text.Reads as reads
-use Rattle.fields.proofs.text.put_text.Lts as lts
-use Rattle.fields.proofs.runs.copy.Reads as copy-reads
-use Rattle.fields.proofs.runs.part_at.Reads as part-at-reads
-use Rattle.fields.proofs.runs.zero.Reads as zero-reads
-use Rattle.fields.proofs.text.cut_length.Reads as cut-length-reads
+use Rattle.texts.proofs.put_text.Statement.{statement}
+use Rattle.texts.proofs.put_text.Tie as tie
+use Rattle.texts.proofs.put_text.Reads as reads
+use Rattle.texts.proofs.put_text.Lts as lts
+use Rattle.runs.proofs.copy.Reads as copy-reads
+use Rattle.runs.proofs.part_at.Reads as part-at-reads
+use Rattle.runs.proofs.zero.Reads as zero-reads
+use Rattle.texts.proofs.cut_length.Reads as cut-length-reads
 
 -- the cut, and zeros behind it
 in-field : (d : Bytes) (at w : ℕ) (t : Bytes)

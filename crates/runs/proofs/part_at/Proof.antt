@@ -1,16 +1,16 @@
--- `fields::runs::part_at` meets its contract. Assumes nothing.
+-- `runs::part_at` meets its contract. Assumes nothing.
 use mathlib.Core.Path.{_≡_, sym, _∙_}
 use Prim.Native.Nat.{ℕ, _+_, _-_, _≤_}
 use native.Mathlib.Omega.{arith}
 use lib.ListN.{length, take, drop, length-drop}
 use lib.Seq.{take-all}
 use Rattle.fields.specs.Bytes.{Bytes, part}
 use Rattle.fields.proofs.ByteLaws.{part-past}
 use borrow.Author.Needs.{needs}
-use Rattle.fields.proofs.runs.part_at.Statement.{statement}
-use Rattle.fields.proofs.runs.part_at.Tie as tie
-use Rattle.fields.proofs.runs.part_at.Reads as reads
-use Rattle.fields.proofs.runs.part_at.Lts as lts
+use Rattle.runs.proofs.part_at.Statement.{statement}
+use Rattle.runs.proofs.part_at.Tie as tie
+use Rattle.runs.proofs.part_at.Reads as reads
+use Rattle.runs.proofs.part_at.Lts as lts
 
 -- two counts that both reach the end
 take-both : (m n : ℕ) (l : Bytes) → length l ≤ m → length l ≤ n → take m l ≡ take n l
