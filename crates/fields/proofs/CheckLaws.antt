@@ -5,11 +5,14 @@ use Prim.Native.Nat.{ℕ, zero, suc, _≤_, _<_}
 use native.Mathlib.Omega.{arith}
 use mathlib.Core.Bool.{Bool, true, false, _||_, not}
 use mathlib.Core.List.{List, [], _∷_}
+use mathlib.Core.Logic.{_⊎_, inl, inr}
+use borrow.Author.Tests.{lt-ltb}
+use lib.ListN.{take, drop}
 use lib.Dec.{T, ltb, ltb→lt, nltb→le, not-T}
 use Rattle.fields.specs.Bytes.{Bytes, same}
 use Rattle.fields.specs.declared.Verdict.{Verdict}
 use Rattle.fields.specs.declared.Verdict.the-variants.{Passes, Fails}
-use Rattle.fields.specs.Checks.{Test, _below_, _differs-from_, not-so, _or_, fails, Clear, Check, failIf, firstFailing, AllClear}
+use Rattle.fields.specs.Checks.{Test, _below_, _differs-from_, not-so, _or_, fails, Clear, Check, failIf, firstFailing, then, AllClear}
 use Rattle.fields.proofs.ByteLaws.{same→eq, same-refl}
 
 not-or : (a b : Bool) → T (not (a || b)) → T (not a) × T (not b)
@@ -83,3 +86,54 @@ gives n t cs h = fails-fail (fails t) n (firstFailing cs) h
 pub goes-on : (n : ℕ) (t : Test) (cs : List Check) → T (not (fails t)) → firstFailing ((n, t) ∷ cs) ≡ firstFailing cs
 unfolding firstFailing
 goes-on n t cs h = passes-fail (fails t) n (firstFailing cs) h
+
+-- what is known where a test fails
+abbrev pub Broken : Test → Type 0
+Broken (a below b) = a < b
+Broken (x differs-from y) = same x y ≡ false
+Broken (not-so b) = b ≡ false
+Broken (t or u) = Broken t ⊎ Broken u
+
+or-left : (a b : Bool) → T a → T (a || b)
+or-left true b t = tt
+or-left false b t = absurd t
+
+or-right : (a b : Bool) → T b → T (a || b)
+or-right true b t = tt
+or-right false b t = t
+
+pub broken : (t : Test) → Broken t → T (fails t)
+unfolding fails
+broken (a below b) h = subst T (sym (lt-ltb a b h)) tt
+broken (x differs-from y) h = rw h tt
+broken (not-so b) h = rw h tt
+broken (t or u) (inl h) = or-left (fails t) (fails u) (broken t h)
+broken (t or u) (inr h) = or-right (fails t) (fails u) (broken u h)
+
+pub first-fails : (n : ℕ) (t : Test) (cs : List Check) → Broken t → firstFailing ((n, t) ∷ cs) ≡ Fails n
+first-fails n t cs h = gives n t cs (broken t h)
+
+pub first-clear : (n : ℕ) (t : Test) (cs : List Check) → Clear t → firstFailing ((n, t) ∷ cs) ≡ firstFailing cs
+first-clear n t cs h = goes-on n t cs (unclear t h)
+
+-- ---- a table in two parts
+
+pub then-passes : (v w : Verdict) → v ≡ Passes → then v w ≡ w
+unfolding then
+then-passes v w e = rw e
+
+pub then-fails : (v w : Verdict) (n : ℕ) → v ≡ Fails n → then v w ≡ Fails n
+unfolding then
+then-fails v w n e = rw e
+
+then-fail : (b : Bool) (n : ℕ) (v w : Verdict) → then (failIf b n v) w ≡ failIf b n (then v w)
+unfolding then failIf
+then-fail true n v w = refl
+then-fail false n v w = refl
+
+pub in-parts : (k : ℕ) (cs : List Check) → then (firstFailing (take k cs)) (firstFailing (drop k cs)) ≡ firstFailing cs
+unfolding firstFailing then
+in-parts zero cs = refl
+in-parts (suc k) [] = refl
+in-parts (suc k) (c ∷ cs) =
+    then-fail (fails (c .1)) (c .0) (firstFailing (take k cs)) (firstFailing (drop k cs)) ∙ ap (failIf (fails (c .1)) (c .0)) (in-parts k cs)

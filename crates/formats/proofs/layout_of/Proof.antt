@@ -1,0 +1,73 @@
+-- `formats::layout_of` meets its contract: each arm gives the parts of its own format. Assumes nothing.
+use mathlib.Core.Path.{refl, sym}
+use native.Mathlib.Omega.{arith}
+use borrow.Author.Needs.{needs}
+use Rattle.formats.specs.Formats.{formatSize}
+use Rattle.formats.proofs.FormatLaws.{layout-is, above}
+use Rattle.formats.proofs.layout_of.Statement.{statement}
+use Rattle.formats.proofs.layout_of.Tie as tie
+
+time-place-requires : tie.Need-time-place-requires
+time-place-requires c κs = search needs
+
+colour-place-requires : tie.Need-colour-place-requires
+colour-place-requires c κs = search needs
+
+time-place-requires-2 : tie.Need-time-place-requires-2
+time-place-requires-2 c κs = search needs
+
+colour-place-requires-2 : tie.Need-colour-place-requires-2
+colour-place-requires-2 c κs = search needs
+
+time-place-requires-3 : tie.Need-time-place-requires-3
+time-place-requires-3 c κs = search needs
+
+colour-place-requires-3 : tie.Need-colour-place-requires-3
+colour-place-requires-3 c κs = search needs
+
+time-place-requires-4 : tie.Need-time-place-requires-4
+time-place-requires-4 c κs = search needs
+
+colour-place-requires-4 : tie.Need-colour-place-requires-4
+colour-place-requires-4 c κs = search needs
+
+returns : tie.Need-returns
+unfolding formatSize
+returns c = layout-is _ 0 _ _ _ (c .before .before .match .keys1) refl (c .before .time-place .ensures) (c .colour-place .ensures)
+
+returns-2 : tie.Need-returns-2
+unfolding formatSize
+returns-2 c = layout-is _ 1 _ _ _ (c .before .before .match .keys2) refl (c .before .time-place2 .ensures) (c .colour-place2 .ensures)
+
+returns-3 : tie.Need-returns-3
+unfolding formatSize
+returns-3 c = layout-is _ 2 _ _ _ (c .before .before .match .keys3) refl (c .before .time-place3 .ensures) (c .colour-place3 .ensures)
+
+returns-4 : tie.Need-returns-4
+unfolding formatSize
+returns-4 c = layout-is _ 3 _ _ _ (c .before .before .match .keys4) refl (c .before .time-place4 .ensures) (c .colour-place4 .ensures)
+
+returns-5 : tie.Need-returns-5
+returns-5 c =
+    let f = c .before .args .format in
+    let r = c .match .rest in
+    let a = above f (omega (arith, r .1, r .0 .1, r .0 .0 .1, r .0 .0 .0 .1)) in
+    layout-is f f 0 _ _ refl (sym (a .size)) (sym (a .time)) (sym (a .colour))
+
+pub layout-of-spec : {M : Type 1} → statement M
+layout-of-spec =
+    tie.close
+    (tie.spec
+    time-place-requires
+    colour-place-requires
+    time-place-requires-2
+    colour-place-requires-2
+    time-place-requires-3
+    colour-place-requires-3
+    time-place-requires-4
+    colour-place-requires-4
+    returns
+    returns-2
+    returns-3
+    returns-4
+    returns-5)

@@ -1,0 +1,63 @@
+-- What it means that a file passes the file checks, fact by fact.
+-- Assumes nothing.
+use mathlib.Core.Path.{_≡_}
+use Prim.Native.Nat.{_+_, _*_, _≤_}
+use lib.ListN.{length}
+use lib.Dec.{T}
+use Rattle.fields.specs.Bytes.{Bytes, part}
+use Rattle.fields.specs.Checks.{AllClear}
+use Rattle.fields.specs.declared.Verdict.the-variants.{Passes}
+use Rattle.fields.proofs.CheckLaws.{none-fails, all-clear}
+use Rattle.formats.specs.Formats.{formatSize}
+use Rattle.scaling.specs.Scaling.{scalingOf, goodScaling}
+use Rattle.lasfile.specs.Header.{signature, version, headerSize, pointOffset, recordCount, format, recordLength, pointCount, recordsEnd, fileChecks, fileVerdict}
+
+pub record Passed (s : Bytes) : Type 0 where
+  pub whole : 227 ≤ length s
+  pub signed : part 0 4 s ≡ signature
+  pub versioned : part 24 2 s ≡ version
+  pub headerLow : 227 ≤ headerSize s
+  pub headerHigh : headerSize s ≤ length s
+  pub formatted : format s ≤ 3
+  pub recordLow : formatSize (format s) ≤ recordLength s
+  pub offsetLow : headerSize s ≤ pointOffset s
+  pub offsetHigh : pointOffset s ≤ length s
+  pub walked : recordsEnd s ≤ pointOffset s
+  pub pointed : pointOffset s + pointCount s * recordLength s ≤ length s
+  pub scaled : T (goodScaling (scalingOf s))
+
+pub passed : (s : Bytes) → fileVerdict s ≡ Passes → Passed s
+unfolding fileVerdict
+passed s e =
+    let h : AllClear (fileChecks s) = none-fails (fileChecks s) e in
+    record {
+      whole = h .0;
+      signed = h .1 .0;
+      versioned = h .1 .1 .0;
+      headerLow = h .1 .1 .1 .0 .0;
+      headerHigh = h .1 .1 .1 .0 .1;
+      formatted = h .1 .1 .1 .1 .0;
+      recordLow = h .1 .1 .1 .1 .1 .0;
+      offsetLow = h .1 .1 .1 .1 .1 .1 .0 .0;
+      offsetHigh = h .1 .1 .1 .1 .1 .1 .0 .1;
+      walked = h .1 .1 .1 .1 .1 .1 .1 .0;
+      pointed = h .1 .1 .1 .1 .1 .1 .1 .1 .0;
+      scaled = h .1 .1 .1 .1 .1 .1 .1 .1 .1 .0;
+    }
+
+pub passes : (s : Bytes) → Passed s → fileVerdict s ≡ Passes
+unfolding fileVerdict
+passes s p =
+    all-clear (fileChecks s) (
+      p .whole,
+      (
+        p .signed,
+        (
+          p .versioned,
+          (
+            (p .headerLow, p .headerHigh),
+            (p .formatted, (p .recordLow, ((p .offsetLow, p .offsetHigh), (p .walked, (p .pointed, (p .scaled, tt)))))),
+          ),
+        ),
+      ),
+    )

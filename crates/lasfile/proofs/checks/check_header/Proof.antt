@@ -1,0 +1,116 @@
+-- `lasfile::checks::check_header` meets its contract. Assumes nothing.
+use mathlib.Core.Path.{_≡_, sym, ap, _∙_, subst}
+use mathlib.Core.Logic.{inl, inr}
+use mathlib.Core.Bool.{Bool, true, false}
+use native.Mathlib.Omega.{arith}
+use borrow.Author.Tests.{not-true, not-false}
+use denote.Ref.{now}
+use lib.Dec.{T}
+use Rattle.fields.specs.Bytes.{Bytes, part, same}
+use Rattle.fields.proofs.ByteLaws.{same→eq}
+use Rattle.fields.proofs.CheckLaws.{first-fails, first-clear}
+use Rattle.lasfile.specs.Header.{signature, version, headerSize}
+use borrow.Author.Needs.{needs}
+use Rattle.lasfile.proofs.checks.check_header.Statement.{statement}
+use Rattle.lasfile.proofs.checks.check_header.Tie as tie
+use Rattle.lasfile.proofs.checks.check_header.Reads as reads
+use Rattle.lasfile.proofs.checks.check_header.Lts as lts
+use Rattle.fields.proofs.numbers.number_at.Reads as number-at-reads
+use Rattle.lasfile.proofs.checks.check_points.Reads as check-points-reads
+use Rattle.runs.proofs.part_at.Reads as part-at-reads
+use Rattle.runs.proofs.same_bytes.Reads as same-bytes-reads
+
+-- what comparing a part says, by its answer r
+differs : (r : Bool) (x p y : Bytes) → r ≡ same x y → x ≡ p → r ≡ false → same p y ≡ false
+differs r x p y e q n = ap (λ (z : Bytes). same z y) (sym q) ∙ sym e ∙ n
+
+agrees : (r : Bool) (x p y : Bytes) → r ≡ same x y → x ≡ p → r ≡ true → p ≡ y
+agrees r x p y e q t = same→eq p y (subst T (sym (ap (λ (z : Bytes). same z y) (sym q) ∙ sym e ∙ t)) tt)
+
+signed : (c : tie.Else2) → part 0 4 (now (c .before .before .before .before .before .before .args .file)) ≡ signature
+signed c = agrees _ _ _ signature (c .before .same-bytes .ensures) (c .before .before .before .part-at .ensures) (not-false _ (c .if2 .left))
+
+versioned : (c : tie.Else3) → part 24 2 (now (c .before .before .before .before .before .before .before .before .before .before .args .file)) ≡ version
+versioned c = agrees _ _ _ version (c .before .same-bytes2 .ensures) (c .before .before .before .part-at2 .ensures) (not-false _ (c .if3 .left))
+
+returns : tie.Need-returns
+returns c = sym (first-fails _ _ _ (omega arith))
+
+part-at-requires : tie.Need-part-at-requires
+part-at-requires c κs = search needs
+
+slice-aggregate-same-bytes : tie.Need-slice-aggregate-same-bytes
+slice-aggregate-same-bytes c = search needs
+
+same-bytes-requires : tie.Need-same-bytes-requires
+same-bytes-requires c κs = search needs
+
+returns-2 : tie.Need-returns-2
+returns-2 c =
+    sym (first-clear _ _ _ (omega arith)
+    ∙ first-fails _ _ _ (differs _ _ _ signature (c .before .same-bytes .ensures) (c .before .before .before .part-at .ensures) (not-true _ (c .if2 .taken))))
+
+part-at-requires-2 : tie.Need-part-at-requires-2
+part-at-requires-2 c κs = search needs
+
+slice-aggregate-same-bytes-2 : tie.Need-slice-aggregate-same-bytes-2
+slice-aggregate-same-bytes-2 c = search needs
+
+same-bytes-requires-2 : tie.Need-same-bytes-requires-2
+same-bytes-requires-2 c κs = search needs
+
+returns-3 : tie.Need-returns-3
+returns-3 c =
+    sym (first-clear _ _ _ (omega arith)
+    ∙ first-clear _ _ _ (signed (c .before .before .before .before))
+    ∙ first-fails _ _ _ (differs _ _ _ version (c .before .same-bytes2 .ensures) (c .before .before .before .part-at2 .ensures) (not-true _ (c .if3 .taken))))
+
+number-at-requires : tie.Need-number-at-requires
+number-at-requires c κs = search needs
+
+returns-4 : tie.Need-returns-4
+unfolding headerSize
+returns-4 c =
+    sym (first-clear _ _ _ (omega arith)
+    ∙ first-clear _ _ _ (signed (c .before .before .before .before .before .before))
+    ∙ first-clear _ _ _ (versioned (c .before .before))
+    ∙ first-fails _ _ _ (inl (omega arith)))
+
+returns-5 : tie.Need-returns-5
+unfolding headerSize
+returns-5 c =
+    sym (first-clear _ _ _ (omega arith)
+    ∙ first-clear _ _ _ (signed (c .before .before .before .before .before .before .before))
+    ∙ first-clear _ _ _ (versioned (c .before .before .before))
+    ∙ first-fails _ _ _ (inr (omega arith)))
+
+check-points-requires : tie.Need-check-points-requires
+check-points-requires c κs = search needs
+
+returns-6 : tie.Need-returns-6
+unfolding headerSize
+returns-6 c =
+    c .check-points .ensures
+    ∙ sym (first-clear _ _ _ (omega arith)
+    ∙ first-clear _ _ _ (signed (c .before .before .before .before .before .before .before .before))
+    ∙ first-clear _ _ _ (versioned (c .before .before .before .before))
+    ∙ first-clear _ _ _ (omega arith, omega arith))
+
+pub check-header-spec : {M : Type 1} → statement M
+check-header-spec =
+    tie.close
+    (tie.spec
+    returns
+    part-at-requires
+    slice-aggregate-same-bytes
+    same-bytes-requires
+    returns-2
+    part-at-requires-2
+    slice-aggregate-same-bytes-2
+    same-bytes-requires-2
+    returns-3
+    number-at-requires
+    returns-4
+    returns-5
+    check-points-requires
+    returns-6)

@@ -1,0 +1,29 @@
+-- `scaling::Scaling::coordinates` meets its contract. Assumes nothing.
+use borrow.Author.Needs.{needs}
+use mir.Syntax.{w32}
+use mir.ValLaws.{toZ-ofZ}
+use Rattle.scaling.specs.Scaling.{coordinatesOf}
+use Rattle.scaling.proofs.Scaling.coordinates.Statement.{statement}
+use Rattle.scaling.proofs.Scaling.coordinates.Tie as tie
+
+coordinate-requires : tie.Need-coordinate-requires
+coordinate-requires c κs = search needs
+
+coordinate-requires-2 : tie.Need-coordinate-requires-2
+coordinate-requires-2 c κs = search needs
+
+coordinate-requires-3 : tie.Need-coordinate-requires-3
+coordinate-requires-3 c κs = search needs
+
+returns : tie.Need-returns
+unfolding coordinatesOf
+returns c =
+    let a = c .before .before .before in
+    let x = toZ-ofZ w32 (a .args .x) (a .fits .x) in
+    let y = toZ-ofZ w32 (a .args .y) (a .fits .y) in
+    let z = toZ-ofZ w32 (a .args .z) (a .fits .z) in
+    cc
+
+pub coordinates-spec : {M : Type 1} → statement M
+coordinates-spec =
+    tie.close (tie.spec coordinate-requires coordinate-requires-2 coordinate-requires-3 returns)
