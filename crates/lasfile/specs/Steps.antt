@@ -1,6 +1,6 @@
 -- One step of the walk over a file's variable length records.
 -- Assumes nothing.
-use Prim.Native.Nat.{ℕ, _+_}
+use Prim.Native.Nat.{ℕ, zero, suc, _+_}
 use mathlib.Core.List.{List, [], _∷_}
 use lib.ListN.{length, drop}
 use lib.Dec.{ltb}
@@ -46,3 +46,14 @@ recordIf (Fails n) r c = Refused n
 unfoldable pub stepOf : Bytes → ℕ → ℕ → Step
 stepOf s index position =
     recordIf (then (fileVerdict s) (firstFailing (stepChecks s index position))) (recordPlaces s position) (nextCursor s index position)
+
+-- ---- stepping on until a refusal
+
+unfoldable pub collect : Step → (VlrCursor → List RecordPlaces) → List RecordPlaces
+collect (Record r c) later = r ∷ later c
+collect (Refused n) later = []
+
+-- the records that n steps visit, each from the cursor that the one before it answered
+unfoldable pub visited : ℕ → Bytes → VlrCursor → List RecordPlaces
+visited zero s c = []
+visited (suc n) s c = collect (stepOf s (c .index) (c .position)) (visited n s)
