@@ -1,6 +1,6 @@
 -- Laws of bytes: numbers out of their bytes and back, parts, fields back to back, pieces, equal runs.
 -- Assumes nothing.
-use mathlib.Core.Path.{_≡_, refl, sym, ap, ap₂, _∙_}
+use mathlib.Core.Path.{_≡_, refl, sym, ap, ap₂, _∙_, subst}
 use Prim.Native.Nat.{ℕ, zero, suc, _+_, _-_, _*_, _/_, _%_, _^_, _≤_, _<_}
 use native.Mathlib.Nat.{not-suc-le-zero, zero-add}
 use native.Mathlib.Omega.{arith}
@@ -139,6 +139,13 @@ pub same-refl : (x : Bytes) → T (same x x)
 unfolding same
 same-refl [] = tt
 same-refl (x ∷ xs) = and-both (eqb x x) (same xs xs) (eqb-refl x) (same-refl xs)
+
+-- what comparing says of a part p, by its answer r
+pub differs : (r : Bool) (x p y : Bytes) → r ≡ same x y → x ≡ p → r ≡ false → same p y ≡ false
+differs r x p y e q n = ap (λ (z : Bytes). same z y) (sym q) ∙ sym e ∙ n
+
+pub agrees : (r : Bool) (x p y : Bytes) → r ≡ same x y → x ≡ p → r ≡ true → p ≡ y
+agrees r x p y e q t = same→eq p y (subst T (sym (ap (λ (z : Bytes). same z y) (sym q) ∙ sym e ∙ t)) tt)
 
 -- ---- fields back to back
 

@@ -1,13 +1,11 @@
 -- `lasfile::checks::check_header` meets its contract. Assumes nothing.
-use mathlib.Core.Path.{_≡_, sym, ap, _∙_, subst}
+use mathlib.Core.Path.{_≡_, sym, _∙_}
 use mathlib.Core.Logic.{inl, inr}
-use mathlib.Core.Bool.{Bool, true, false}
 use native.Mathlib.Omega.{arith}
 use borrow.Author.Tests.{not-true, not-false}
 use denote.Ref.{now}
-use lib.Dec.{T}
-use Rattle.fields.specs.Bytes.{Bytes, part, same}
-use Rattle.fields.proofs.ByteLaws.{same→eq}
+use Rattle.fields.specs.Bytes.{part}
+use Rattle.fields.proofs.ByteLaws.{differs, agrees}
 use Rattle.fields.proofs.CheckLaws.{first-fails, first-clear}
 use Rattle.lasfile.specs.Header.{signature, version, headerSize}
 use borrow.Author.Needs.{needs}
@@ -19,13 +17,6 @@ use Rattle.fields.proofs.numbers.number_at.Reads as number-at-reads
 use Rattle.lasfile.proofs.checks.check_points.Reads as check-points-reads
 use Rattle.runs.proofs.part_at.Reads as part-at-reads
 use Rattle.runs.proofs.same_bytes.Reads as same-bytes-reads
-
--- what comparing a part says, by its answer r
-differs : (r : Bool) (x p y : Bytes) → r ≡ same x y → x ≡ p → r ≡ false → same p y ≡ false
-differs r x p y e q n = ap (λ (z : Bytes). same z y) (sym q) ∙ sym e ∙ n
-
-agrees : (r : Bool) (x p y : Bytes) → r ≡ same x y → x ≡ p → r ≡ true → p ≡ y
-agrees r x p y e q t = same→eq p y (subst T (sym (ap (λ (z : Bytes). same z y) (sym q) ∙ sym e ∙ t)) tt)
 
 signed : (c : tie.Else2) → part 0 4 (now (c .before .before .before .before .before .before .args .file)) ≡ signature
 signed c = agrees _ _ _ signature (c .before .same-bytes .ensures) (c .before .before .before .part-at .ensures) (not-false _ (c .if2 .left))

@@ -1,0 +1,82 @@
+-- `geokeys::find` meets its contract. Assumes nothing.
+use mathlib.Core.Path.{_≡_, sym, ap, _∙_}
+use native.Mathlib.Omega.{arith}
+use denote.Ref.{now}
+use Rattle.fields.specs.Bytes.{Bytes}
+use Rattle.fields.specs.Checks.{firstFailing}
+use Rattle.fields.specs.declared.Verdict.the-variants.{Passes}
+use Rattle.lasfile.specs.Header.{fileVerdict}
+use Rattle.geokeys.specs.GeoKeys.{directoryChecks, entryOf, answerIf, fromEntry, fromDirectory, lookup}
+use Rattle.geokeys.proofs.SearchLaws.{answer-passes, answer-fails, placed, nowhere, low-place}
+use borrow.Author.Needs.{needs}
+use Rattle.geokeys.proofs.find.Statement.{statement}
+use Rattle.geokeys.proofs.find.Tie as tie
+use Rattle.geokeys.proofs.find.Reads as reads
+use Rattle.geokeys.proofs.find.Lts as lts
+use Rattle.geokeys.proofs.find_projection.Reads as find-projection-reads
+use Rattle.geokeys.proofs.from_directory.Reads as from-directory-reads
+use Rattle.geokeys.proofs.payload_at.Reads as payload-at-reads
+use Rattle.lasfile.proofs.checks.check_file.Reads as check-file-reads
+
+passed : (c : tie.After-enum-told) → fileVerdict (now (c .before .before .before .before .args .file)) ≡ Passes
+passed c = sym (c .before .before .check-file .ensures) ∙ c .enum-told .given .1
+
+check-file-requires : tie.Need-check-file-requires
+check-file-requires c κs = search needs
+
+enum-known-verdict : tie.Need-enum-known-verdict
+enum-known-verdict c = search needs
+
+returns : tie.Need-returns
+unfolding lookup
+returns c = sym (answer-fails _ _ _ (sym (c .before .before .before .check-file .ensures) ∙ c .before .verdict .given .1))
+
+enum-told : tie.Need-enum-told
+enum-told c = search needs
+
+find-projection-requires : tie.Need-find-projection-requires
+find-projection-requires c κs = passed c
+
+enum-known-found : tie.Need-enum-known-found
+enum-known-found c = search needs
+
+payload-at-requires : tie.Need-payload-at-requires
+payload-at-requires c κs = omega (arith, low-place _ _ (c .before .found .given .1) (c .before .before .before .find-projection .ensures .1))
+
+from-directory-requires : tie.Need-from-directory-requires
+from-directory-requires c κs = passed (c .before .before .before .before .before)
+
+enum-told-2 : tie.Need-enum-told-2
+enum-told-2 c = search needs
+
+returns-2 : tie.Need-returns-2
+unfolding lookup fromDirectory
+returns-2 c =
+    let a = c .before .before .before .before .before .before .before .before .before .before .args in
+    let found = placed _ _ _ (c .before .before .before .before .before .find-projection .ensures .0) (c .before .before .before .found .given .1) in
+    c .from-directory .ensures
+    ∙ ap (λ (d : Bytes). answerIf (firstFailing (directoryChecks d)) (fromEntry (now (a .file)) (entryOf d (a .key)))) (c .before .payload-at .ensures)
+    ∙ sym (answer-passes _ _ (passed (c .before .before .before .before .before .before)) ∙ ap (fromDirectory (now (a .file)) (a .key)) found)
+
+returns-3 : tie.Need-returns-3
+unfolding lookup fromDirectory
+returns-3 c =
+    let a = c .before .before .before .before .before .before .before .args in
+    let none = nowhere _ _ (c .before .before .find-projection .ensures .0) (c .enum-told2 .given .1) in
+    sym (answer-passes _ _ (passed (c .before .before .before)) ∙ ap (fromDirectory (now (a .file)) (a .key)) none)
+
+pub find-spec : {M : Type 1} → statement M
+find-spec =
+    tie.close
+    (tie.spec
+    check-file-requires
+    enum-known-verdict
+    returns
+    enum-told
+    find-projection-requires
+    enum-known-found
+    payload-at-requires
+    from-directory-requires
+    enum-told-2
+    returns-2
+    returns-3)

@@ -1,0 +1,79 @@
+-- `geokeys::from_directory` meets its contract. Assumes nothing.
+use mathlib.Core.Path.{_≡_, sym, ap, _∙_}
+use mathlib.Core.Option.{some}
+use denote.Ref.{now}
+use Rattle.fields.specs.Bytes.{Bytes}
+use Rattle.fields.specs.Checks.{firstFailing}
+use Rattle.fields.specs.declared.Verdict.the-variants.{Passes}
+use Rattle.geokeys.specs.GeoKeys.{directoryChecks, fromEntry}
+use Rattle.geokeys.proofs.SearchLaws.{answer-passes, answer-fails, entry-placed, no-entry}
+use borrow.Author.Needs.{needs}
+use Rattle.geokeys.proofs.from_directory.Statement.{statement}
+use Rattle.geokeys.proofs.from_directory.Tie as tie
+use Rattle.geokeys.proofs.from_directory.Reads as reads
+use Rattle.geokeys.proofs.from_directory.Lts as lts
+use Rattle.geokeys.proofs.check_directory.Reads as check-directory-reads
+use Rattle.geokeys.proofs.find_entry.Reads as find-entry-reads
+use Rattle.geokeys.proofs.from_entry.Reads as from-entry-reads
+use Rattle.runs.proofs.part_at.Reads as part-at-reads
+
+passed : (c : tie.After-enum-told) → firstFailing (directoryChecks (now (c .before .before .before .before .before .args .directory))) ≡ Passes
+passed c = sym (c .before .before .check-directory .ensures) ∙ c .enum-told .given .1
+
+check-directory-requires : tie.Need-check-directory-requires
+check-directory-requires c κs = search needs
+
+enum-known-verdict : tie.Need-enum-known-verdict
+enum-known-verdict c = search needs
+
+returns : tie.Need-returns
+returns c = sym (answer-fails _ _ _ (sym (c .before .before .before .check-directory .ensures) ∙ c .before .verdict .given .1))
+
+enum-told : tie.Need-enum-told
+enum-told c = search needs
+
+find-entry-requires : tie.Need-find-entry-requires
+find-entry-requires c κs = search needs
+
+enum-known-found : tie.Need-enum-known-found
+enum-known-found c = search needs
+
+part-at-requires : tie.Need-part-at-requires
+part-at-requires c κs = search needs
+
+from-entry-requires : tie.Need-from-entry-requires
+from-entry-requires c κs = search needs
+
+enum-told-2 : tie.Need-enum-told-2
+enum-told-2 c = search needs
+
+returns-2 : tie.Need-returns-2
+returns-2 c =
+    let a = c .before .before .before .before .before .before .before .before .before .before .before .args in
+    let found = entry-placed _ _ _ _ (c .before .before .before .before .before .find-entry .ensures) (c .before .before .before .found .given .1) in
+    c .from-entry .ensures
+    ∙ ap (λ (e : Bytes). fromEntry (now (a .file)) (some e)) (c .before .part-at .ensures)
+    ∙ sym (answer-passes _ _ (passed (c .before .before .before .before .before .before)) ∙ ap (fromEntry (now (a .file))) found)
+
+returns-3 : tie.Need-returns-3
+unfolding fromEntry
+returns-3 c =
+    let a = c .before .before .before .before .before .before .before .before .args in
+    let none = no-entry _ _ _ (c .before .before .find-entry .ensures) (c .enum-told2 .given .1) in
+    sym (answer-passes _ _ (passed (c .before .before .before)) ∙ ap (fromEntry (now (a .file))) none)
+
+pub from-directory-spec : {M : Type 1} → statement M
+from-directory-spec =
+    tie.close
+    (tie.spec
+    check-directory-requires
+    enum-known-verdict
+    returns
+    enum-told
+    find-entry-requires
+    enum-known-found
+    part-at-requires
+    from-entry-requires
+    enum-told-2
+    returns-2
+    returns-3)

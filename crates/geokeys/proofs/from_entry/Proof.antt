@@ -1,0 +1,153 @@
+-- `geokeys::from_entry` meets its contract. Assumes nothing.
+use mathlib.Core.Path.{_≡_, sym, ap, _∙_, subst}
+use mathlib.Core.Bool.{Bool, true, false, _||_}
+use mathlib.Core.Option.{some}
+use Prim.Native.Nat.{ℕ, _+_, _<_}
+use native.Mathlib.Omega.{arith}
+use borrow.Author.Tests.{not-true, not-false, eq-eqb, ne-eqb}
+use denote.Ref.{now}
+use lib.Dec.{T, eqb}
+use Rattle.fields.specs.Bytes.{Bytes}
+use Rattle.fields.specs.Checks.{firstFailing}
+use Rattle.fields.specs.declared.Verdict.the-variants.{Passes}
+use Rattle.fields.proofs.CheckLaws.{first-fails, first-clear, all-clear}
+use Rattle.geokeys.specs.GeoKeys.{projectionPlace, payloadAt, locationOf, countOf, offsetOf, entryChecks, either, doubleIn, textIn, inParameters, fromEntry}
+use Rattle.geokeys.specs.declared.GeoKey.the-variants.{Value, Refused}
+use Rattle.geokeys.proofs.SearchLaws.{answer-passes, answer-fails, either-first, either-second, placed, nowhere, low-place}
+use borrow.Author.Needs.{needs}
+use Rattle.geokeys.proofs.from_entry.Statement.{statement}
+use Rattle.geokeys.proofs.from_entry.Tie as tie
+use Rattle.geokeys.proofs.from_entry.Reads as reads
+use Rattle.geokeys.proofs.from_entry.Lts as lts
+use Rattle.fields.proofs.numbers.number_at.Reads as number-at-reads
+use Rattle.geokeys.proofs.find_projection.Reads as find-projection-reads
+use Rattle.geokeys.proofs.in_payload.Reads as in-payload-reads
+use Rattle.geokeys.proofs.payload_at.Reads as payload-at-reads
+
+-- whether a location is one of the three, and whether a count is right for it
+abbrev known : ℕ → Bool
+known l = eqb l 0 || (eqb l 34736 || eqb l 34737)
+
+abbrev counted : ℕ → ℕ → Bool
+counted l n = eqb l 34737 || eqb n 1
+
+is-true : (b : Bool) → b ≡ true → T b
+is-true b e = subst T (sym e) tt
+
+-- the answer by the entry, case by case
+module _ (s e : Bytes) where
+  refused-43 : known (locationOf e) ≡ false → fromEntry s (some e) ≡ Refused 43
+  unfolding fromEntry
+  refused-43 h = answer-fails _ _ 43 (first-fails _ _ _ h)
+
+  refused-44 : known (locationOf e) ≡ true → counted (locationOf e) (countOf e) ≡ false → fromEntry s (some e) ≡ Refused 44
+  unfolding fromEntry
+  refused-44 k h = answer-fails _ _ 44 (first-clear _ _ _ (is-true _ k) ∙ first-fails _ _ _ h)
+
+  module _ (k : known (locationOf e) ≡ true) (n : counted (locationOf e) (countOf e) ≡ true) where
+    passes : firstFailing (entryChecks e) ≡ Passes
+    passes = all-clear (entryChecks e) (is-true _ k, (is-true _ n, tt))
+
+    value : locationOf e ≡ 0 → fromEntry s (some e) ≡ Value (offsetOf e)
+    unfolding fromEntry
+    value l = answer-passes _ _ passes ∙ either-first _ _ _ (eq-eqb _ 0 l)
+
+    elsewhere : (locationOf e ≡ 0 → ⊥) → fromEntry s (some e) ≡ inParameters s e (projectionPlace s (locationOf e))
+    unfolding fromEntry
+    elsewhere l = answer-passes _ _ passes ∙ either-second _ _ _ (ne-eqb _ 0 l)
+
+-- what was read and tested, over the entry itself
+location-is : (c : tie.After-number-at2) → c .before .number-at .result ≡ locationOf (now (c .before .before .before .before .args .entry))
+unfolding locationOf
+location-is c = c .before .number-at .ensures .0
+
+count-is : (c : tie.After-number-at2) → c .number-at2 .result ≡ countOf (now (c .before .before .before .before .args .entry))
+unfolding countOf
+count-is c = c .number-at2 .ensures .0
+
+is-known : (c : tie.Else1) → known (locationOf (now (c .before .before .before .before .before .args .entry))) ≡ true
+is-known c = ap known (sym (location-is (c .before))) ∙ not-false _ (c .if1 .left)
+
+is-counted : (c : tie.Else2) → counted (locationOf (now (c .before .before .before .before .before .before .args .entry))) (countOf (now (c .before .before .before .before .before .before .args .entry))) ≡ true
+is-counted c = rw (← location-is (c .before .before), ← count-is (c .before .before)) (not-false _ (c .if2 .left))
+
+number-at-requires : tie.Need-number-at-requires
+number-at-requires c κs = search needs
+
+number-at-requires-2 : tie.Need-number-at-requires-2
+number-at-requires-2 c κs = search needs
+
+returns : tie.Need-returns
+returns c = sym (refused-43 _ _ (ap known (sym (location-is (c .before))) ∙ not-true _ (c .if1 .taken)))
+
+returns-2 : tie.Need-returns-2
+returns-2 c =
+    sym (refused-44 _ _ (is-known (c .before)) (rw (← location-is (c .before .before), ← count-is (c .before .before)) (not-true _ (c .if2 .taken))))
+
+number-at-requires-3 : tie.Need-number-at-requires-3
+number-at-requires-3 c κs = search needs
+
+returns-3 : tie.Need-returns-3
+unfolding offsetOf
+returns-3 c =
+    ap Value (c .number-at3 .ensures .0)
+    ∙ sym (value _ _ (is-known (c .before .before .before)) (is-counted (c .before .before)) (sym (location-is (c .before .before .before .before)) ∙ c .before .if3 .taken))
+
+find-projection-requires : tie.Need-find-projection-requires
+find-projection-requires c κs = search needs
+
+enum-known-found : tie.Need-enum-known-found
+enum-known-found c = search needs
+
+payload-at-requires : tie.Need-payload-at-requires
+payload-at-requires c κs = omega (arith, low-place _ _ (c .before .found .given .1) (c .before .before .before .find-projection .ensures .1))
+
+in-payload-requires : tie.Need-in-payload-requires
+in-payload-requires c κs = low-place _ _ (c .before .before .found .given .1) (c .before .before .before .before .find-projection .ensures .1)
+
+enum-told : tie.Need-enum-told
+enum-told c = search needs
+
+-- where the location is another than 0
+searched : (c : tie.Else3)
+    → fromEntry (now (c .before .before .before .before .before .before .before .args .file)) (some (now (c .before .before .before .before .before .before .before .args .entry)))
+    ≡ inParameters (now (c .before .before .before .before .before .before .before .args .file)) (now (c .before .before .before .before .before .before .before .args .entry)) (projectionPlace (now (c .before .before .before .before .before .before .before .args .file)) (c .before .before .before .before .number-at .result))
+searched c =
+    elsewhere _ _ (is-known (c .before .before)) (is-counted (c .before)) (λ l. c .if3 .left (location-is (c .before .before .before) ∙ l))
+    ∙ ap (λ (l : ℕ). inParameters (now (c .before .before .before .before .before .before .before .args .file)) (now (c .before .before .before .before .before .before .before .args .entry)) (projectionPlace (now (c .before .before .before .before .before .before .before .args .file)) l)) (sym (location-is (c .before .before .before)))
+
+returns-4 : tie.Need-returns-4
+unfolding inParameters
+returns-4 c =
+    let s = now (c .before .before .before .before .before .before .before .before .before .before .before .before .before .args .file) in
+    let e = now (c .before .before .before .before .before .before .before .before .before .before .before .before .before .args .entry) in
+    let found = placed _ _ _ (c .before .before .before .before .before .find-projection .ensures .0) (c .before .before .before .found .given .1) in
+    c .in-payload .ensures
+    ∙ ap (λ (p : Bytes). either (eqb (locationOf e) 34736) (doubleIn e p) (textIn e (c .before .before .before .found .given .0 .0) p)) (c .before .payload-at .ensures)
+    ∙ sym (searched (c .before .before .before .before .before .before) ∙ ap (inParameters s e) found)
+
+returns-5 : tie.Need-returns-5
+unfolding inParameters
+returns-5 c =
+    let s = now (c .before .before .before .before .before .before .before .before .before .before .args .file) in
+    let e = now (c .before .before .before .before .before .before .before .before .before .before .args .entry) in
+    let none = nowhere _ _ (c .before .before .find-projection .ensures .0) (c .enum-told .given .1) in
+    sym (searched (c .before .before .before) ∙ ap (inParameters s e) none)
+
+pub from-entry-spec : {M : Type 1} → statement M
+from-entry-spec =
+    tie.close
+    (tie.spec
+    number-at-requires
+    number-at-requires-2
+    returns
+    returns-2
+    number-at-requires-3
+    returns-3
+    find-projection-requires
+    enum-known-found
+    payload-at-requires
+    in-payload-requires
+    enum-told
+    returns-4
+    returns-5)

@@ -1,0 +1,2 @@
+pub mod GeoKeys
+pub mod Places

@@ -1,0 +1,26 @@
+-- `sheet::answer` meets its contract. Assumes nothing.
+use borrow.Author.Needs.{needs}
+use Rattle.sheet.specs.Sheet.{keptUnder}
+use Rattle.sheet.proofs.answer.Statement.{statement}
+use Rattle.sheet.proofs.answer.Tie as tie
+
+enum-known-verdict : tie.Need-enum-known-verdict
+enum-known-verdict c = search needs
+
+enum-told : tie.Need-enum-told
+enum-told c = search needs
+
+returns : tie.Need-returns
+unfolding keptUnder
+returns c = rw (c .before .verdict .given .1)
+
+returns-2 : tie.Need-returns-2
+unfolding keptUnder
+returns-2 c = rw (c .before .enum-told .given .1, c .if1 .taken)
+
+returns-3 : tie.Need-returns-3
+unfolding keptUnder
+returns-3 c = rw (c .before .enum-told .given .1, c .if1 .left)
+
+pub answer-spec : {M : Type 1} → statement M
+answer-spec = tie.close (tie.spec enum-known-verdict enum-told returns returns-2 returns-3)

@@ -1,0 +1,88 @@
+-- `sheet::check_sheet` meets its contract. The loop's invariant: the sheet's verdict is that of the rest, where `left` more lines may begin. Assumes nothing.
+use mathlib.Core.Path.{_≡_, refl, sym, _∙_}
+use native.Mathlib.Omega.{arith}
+use borrow.Author.Needs.{needs}
+use Rattle.sheet.specs.Sheet.{linesVerdict, sheetVerdict}
+use Rattle.sheet.proofs.LineLaws.{within, verdict-here, verdict-next, verdict-full, verdict-end}
+use Rattle.sheet.proofs.check_sheet.Statement.{statement}
+use Rattle.sheet.proofs.check_sheet.Tie as tie
+
+abbrev Inv-loop : tie.InvT-loop
+Inv-loop sheet rest₀ left₀ rest left = sheetVerdict sheet ≡ linesVerdict left rest
+
+abbrev μ-loop : tie.MeasureT-loop
+μ-loop sheet rest₀ left₀ rest left = left
+
+loop-holds : tie.Need-loop-holds Inv-loop μ-loop
+unfolding sheetVerdict
+loop-holds c = refl
+
+returns : tie.Need-returns Inv-loop μ-loop
+returns c =
+    let l = c .before .before .loop in
+    sym (l .inv ∙ verdict-full (l .left) (l .rest .now) (c .if1 .taken) (omega arith))
+
+check-line-requires : tie.Need-check-line-requires Inv-loop μ-loop
+check-line-requires c κs = search needs
+
+enum-told : tie.Need-enum-told Inv-loop μ-loop
+enum-told c = search needs
+
+returns-2 : tie.Need-returns-2 Inv-loop μ-loop
+returns-2 c =
+    let l = c .before .before .before .before .before .loop in
+    let line = c .before .before .check-line in
+    sym (l .inv ∙ verdict-here (l .left) (l .rest .now) (line .result) _ (omega arith) (omega arith) (line .ensures) (c .enum-told .given .1))
+
+enum-told-2 : tie.Need-enum-told-2 Inv-loop μ-loop
+enum-told-2 c = search needs
+
+first-line-requires : tie.Need-first-line-requires Inv-loop μ-loop
+first-line-requires c κs = search needs
+
+sub-rest : tie.Need-sub-rest Inv-loop μ-loop
+sub-rest c = within _ _ (c .first-line .ensures)
+
+part-rest-start : tie.Need-part-rest-start Inv-loop μ-loop
+part-rest-start c = within _ _ (c .first-line .ensures)
+
+part-rest-end : tie.Need-part-rest-end Inv-loop μ-loop
+part-rest-end c = search needs
+
+sub-left : tie.Need-sub-left Inv-loop μ-loop
+sub-left c = omega arith
+
+loop-less : tie.Need-loop-less Inv-loop μ-loop
+loop-less c = omega arith
+
+loop-again : tie.Need-loop-again Inv-loop μ-loop
+loop-again c =
+    let l = c .before .before .before .before .before .before .before .loop in
+    let line = c .before .before .before .before .check-line in
+    l .inv ∙ verdict-next (l .left) (l .rest .now) (line .result) _ (omega arith) (omega arith) (line .ensures) (c .before .before .enum-told2 .given .1) (c .before .first-line .ensures)
+
+returns-3 : tie.Need-returns-3 Inv-loop μ-loop
+returns-3 c =
+    let l = c .before .loop in
+    sym (l .inv ∙ verdict-end (l .left) (l .rest .now) (omega arith))
+
+pub check-sheet-spec : {M : Type 1} → statement M
+check-sheet-spec =
+    tie.close
+    (tie.spec
+    Inv-loop
+    μ-loop
+    loop-holds
+    returns
+    check-line-requires
+    enum-told
+    returns-2
+    enum-told-2
+    first-line-requires
+    sub-rest
+    part-rest-start
+    part-rest-end
+    sub-left
+    loop-less
+    loop-again
+    returns-3)

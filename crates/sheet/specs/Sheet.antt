@@ -1,0 +1,103 @@
+-- The keep sheet: its lines, its checks, and what it keeps.
+-- Assumes nothing.
+use Prim.Native.Nat.{ℕ, zero, suc}
+use mathlib.Core.Bool.{Bool, true, false, not, _||_, _&&_}
+use mathlib.Core.List.{List, [], _∷_}
+use lib.ListN.{length, getD, take, drop}
+use lib.Dec.{leb, eqb}
+use Rattle.fields.specs.declared.Verdict.{Verdict}
+use Rattle.fields.specs.declared.Verdict.the-variants.{Passes, Fails}
+use Rattle.fields.specs.Lists.{some}
+use Rattle.fields.specs.Bytes.{Bytes, part, num, same}
+use Rattle.fields.specs.Text.{cut}
+use Rattle.fields.specs.Checks.{Check, _below_, _differs-from_, not-so, firstFailing, then}
+use Rattle.sheet.specs.declared.Kept.{Kept}
+use Rattle.sheet.specs.declared.Kept.the-variants.{Yes, No, Refused}
+
+-- ---- a line: the bytes 4B 53, a kind byte, and what the kind has
+
+unfoldable pub kind : Bytes → ℕ
+kind l = getD l 2 0
+
+-- a line's length by its kind: 5 for kind 1, 21 for kind 2, and 0 for an unknown kind
+unfoldable pub lineLength : ℕ → ℕ
+lineLength k = getD (0 ∷ 5 ∷ 21 ∷ []) k 0
+
+-- of a kind 1 line: the lowest and the highest class
+unfoldable pub lowest : Bytes → ℕ
+lowest l = getD l 3 0
+
+unfoldable pub highest : Bytes → ℕ
+highest l = getD l 4 0
+
+-- of a kind 2 line: the cut user ID and the record ID
+unfoldable pub userID : Bytes → Bytes
+userID l = cut (part 3 16 l)
+
+unfoldable pub recordID : Bytes → ℕ
+recordID l = num (part 19 2 l)
+
+-- ---- lines back to back
+
+-- the line that bytes begin with, and what follows it
+unfoldable pub firstLine : Bytes → Bytes
+firstLine s = take (lineLength (kind s)) s
+
+unfoldable pub afterLine : Bytes → Bytes
+afterLine s = drop (lineLength (kind s)) s
+
+-- at most n lines; of an unknown kind they are empty, and such a sheet does not pass
+unfoldable pub linesFrom : ℕ → Bytes → List Bytes
+linesFrom zero s = []
+linesFrom (suc n) [] = []
+linesFrom (suc n) (b ∷ bs) = firstLine (b ∷ bs) ∷ linesFrom n (afterLine (b ∷ bs))
+
+unfoldable pub lines : Bytes → List Bytes
+lines = linesFrom 64
+
+-- ---- 20 to 24
+
+-- only a kind 1 line has a lowest and a highest class
+unfoldable pub inOrder : Bytes → Bool
+inOrder l = not (eqb (kind l) 1) || leb (lowest l) (highest l)
+
+-- of the bytes that are left where a line begins
+unfoldable pub lineChecks : Bytes → List Check
+lineChecks s =
+    (22, length s below 3)
+    ∷ (20, part 0 2 s differs-from 0x4B ∷ 0x53 ∷ [])
+    ∷ (21, lineLength (kind s) below 1)
+    ∷ (22, length s below lineLength (kind s))
+    ∷ (23, not-so (inOrder s))
+    ∷ []
+
+-- line by line, where at most n more may begin
+unfoldable pub linesVerdict : ℕ → Bytes → Verdict
+linesVerdict zero [] = Passes
+linesVerdict zero (b ∷ bs) = Fails 24
+linesVerdict (suc n) [] = Passes
+linesVerdict (suc n) (b ∷ bs) = then (firstFailing (lineChecks (b ∷ bs))) (linesVerdict n (afterLine (b ∷ bs)))
+
+unfoldable pub sheetVerdict : Bytes → Verdict
+sheetVerdict = linesVerdict 64
+
+-- ---- what a sheet keeps
+
+unfoldable pub containsClass : Bytes → ℕ → Bool
+containsClass l c = eqb (kind l) 1 && (leb (lowest l) c && leb c (highest l))
+
+-- a record by its cut user ID and its ID
+unfoldable pub namesRecord : Bytes → Bytes → ℕ → Bool
+namesRecord l user id = eqb (kind l) 2 && (same (userID l) user && eqb (recordID l) id)
+
+unfoldable pub keepsClass : Bytes → ℕ → Bool
+keepsClass sheet c = some (λ l. containsClass l c) (lines sheet)
+
+unfoldable pub keepsRecord : Bytes → Bytes → ℕ → Bool
+keepsRecord sheet user id = some (λ l. namesRecord l user id) (lines sheet)
+
+-- the answer under a sheet: its number where a check fails, else whether something is kept
+unfoldable pub keptUnder : Verdict → Bool → Kept
+keptUnder (Fails n) kept = Refused n
+keptUnder Passes true = Yes
+keptUnder Passes false = No
