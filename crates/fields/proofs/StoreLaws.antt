@@ -5,10 +5,10 @@ use mathlib.Core.Logic.{_⊎_, inl, inr}
 use Prim.Native.Nat.{ℕ, zero, suc, _+_, _-_, _^_, _≤_, _<_, min}
 use native.Mathlib.Nat.{eq-zero-or-pos}
 use native.Mathlib.Omega.{arith}
-use mathlib.Core.List.{List, [], _∷_, _++_, append-assoc, append-nil}
-use lib.ListN.{length, take, drop, getD, set, length-append, length-set, length-take, length-drop, replicate, drop-of-length-le}
-use lib.Seq.{take-all, sets, sets-eq, length-sets, paste, length-take-le, take-at, drop-at, set-out, drop-set-lt, drop-set-add, take-set-le}
-use Rattle.fields.specs.Bytes.{Bytes, part, num, bytesOf, zeros}
+use mathlib.Core.List.{[], _∷_, _++_, append-assoc}
+use lib.ListN.{length, take, drop, set, length-set, length-take}
+use lib.Seq.{take-all, sets, sets-eq, paste, length-take-le, take-at, drop-at, set-out, drop-set-lt, drop-set-add, take-set-le}
+use Rattle.fields.specs.Bytes.{Bytes, part, num, bytesOf}
 use Rattle.fields.proofs.ByteLaws.{num-bytesOf, length-bytesOf}
 
 -- one run behind another

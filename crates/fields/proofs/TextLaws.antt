@@ -1,10 +1,10 @@
 -- Laws of texts. Only this file opens `cut`.
 -- Assumes nothing.
-use mathlib.Core.Path.{_≡_, refl, sym, ap, _∙_}
+use mathlib.Core.Path.{_≡_, refl, ap}
 use Prim.Native.Nat.{ℕ, zero, suc, _+_, _-_, _≤_, _<_}
 use native.Mathlib.Omega.{arith}
-use mathlib.Core.List.{List, [], _∷_, _++_}
-use lib.ListN.{length, take, drop, getD, length-append, length-replicate}
+use mathlib.Core.List.{[], _∷_, _++_}
+use lib.ListN.{length, drop, getD, length-append, length-replicate}
 use lib.Seq.{drop-cons}
 use Rattle.fields.specs.Bytes.{Bytes, zeros, part}
 use Rattle.fields.specs.Text.{cut, padded}
@@ -36,12 +36,6 @@ cut-again (zero ∷ bs) k = cut-zeros k
 cut-again (suc b ∷ bs) k = ap (λ (r : Bytes). suc b ∷ r) (cut-again bs k)
 
 -- ---- byte by byte, as code looks for the end of a text
-
-cut-empty : (t : Bytes) → length (cut t) ≤ 0 → cut t ≡ []
-unfolding cut
-cut-empty [] h = refl
-cut-empty (zero ∷ bs) h = refl
-cut-empty (suc b ∷ bs) h = absurd (omega arith)
 
 at-zero : (b : ℕ) (bs : Bytes) → b ≡ 0 → length (cut (b ∷ bs)) ≡ 0
 unfolding cut

@@ -1,7 +1,9 @@
 -- What it means that a file passes the file checks, fact by fact.
 -- Assumes nothing.
 use mathlib.Core.Path.{_≡_}
-use Prim.Native.Nat.{_+_, _*_, _≤_}
+use Prim.Native.Nat.{ℕ, _+_, _*_, _^_, _≤_, _<_}
+use native.Mathlib.Nat.{mul-le-mul}
+use native.Mathlib.Omega.{arith}
 use lib.ListN.{length}
 use lib.Dec.{T}
 use Rattle.fields.specs.Bytes.{Bytes, part}
@@ -10,7 +12,7 @@ use Rattle.fields.specs.declared.Verdict.the-variants.{Passes}
 use Rattle.fields.proofs.CheckLaws.{none-fails, all-clear}
 use Rattle.formats.specs.Formats.{formatSize}
 use Rattle.scaling.specs.Scaling.{scalingOf, goodScaling}
-use Rattle.lasfile.specs.Header.{signature, version, headerSize, pointOffset, recordCount, format, recordLength, pointCount, recordsEnd, fileChecks, fileVerdict}
+use Rattle.lasfile.specs.Header.{signature, version, headerSize, pointOffset, format, recordLength, pointCount, recordsEnd, fileChecks, fileVerdict}
 
 pub record Passed (s : Bytes) : Type 0 where
   pub whole : 227 ≤ length s
@@ -61,3 +63,9 @@ passes s p =
         ),
       ),
     )
+
+-- ---- sizes
+
+-- a count of 4 bytes times a length of 2
+pub product-small : (n w : ℕ) → n < 2 ^ 32 → w < 2 ^ 16 → n * w ≤ 2 ^ 48
+product-small n w h k = mul-le-mul {n₁ = n} {m₁ = w} {n₂ = 2 ^ 32} {m₂ = 2 ^ 16} (omega arith) (omega arith)

@@ -1,10 +1,9 @@
 -- What a step of the walk answers, case by case.
 -- Assumes nothing.
-use mathlib.Core.Path.{_≡_, refl, ap, _∙_}
-use Prim.Native.Nat.{ℕ, _+_, _≤_, _<_}
+use mathlib.Core.Path.{_≡_}
+use Prim.Native.Nat.{ℕ, _+_}
 use lib.ListN.{drop}
 use lib.Dec.{ltb}
-use mathlib.Core.Bool.{true}
 use Rattle.fields.specs.Bytes.{Bytes}
 use Rattle.fields.specs.Checks.{firstFailing, then, Test, _below_, not-so, _or_, Clear}
 use Rattle.fields.specs.declared.Verdict.the-variants.{Passes, Fails}

@@ -1,6 +1,6 @@
 // The walk over a file's variable length records, a step at a time.
 ghost use mathlib.Core.Path.{_≡_};
-ghost use Prim.Native.Nat.{_+_, _≤_, _<_, _^_};
+ghost use Prim.Native.Nat.{_+_, _<_, _^_};
 ghost use Rattle.lasfile.specs.Steps.{recordPlaces, stepOf};
 use fields::Verdict;
 use fields::numbers::number_at;

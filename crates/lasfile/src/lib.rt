@@ -2,3 +2,4 @@
 pub mod checks;
 pub mod cursor;
 pub mod header;
+pub mod one_point;

@@ -1,15 +1,15 @@
 -- Laws of records: the walk step by step, those of a file are sound, and sound records are read back.
 -- Assumes nothing.
-use mathlib.Core.Path.{_≡_, refl, sym, ap, ap₂, _∙_}
-use Prim.Native.Nat.{ℕ, zero, suc, _+_, _-_, _*_, _^_, _≤_, _<_}
+use mathlib.Core.Path.{_≡_, refl, ap, _∙_}
+use Prim.Native.Nat.{ℕ, zero, suc, _+_, _-_, _^_, _≤_, _<_}
 use native.Mathlib.Nat.{not-suc-le-zero}
 use native.Mathlib.Omega.{arith}
 use mathlib.Core.List.{List, [], _∷_, _++_, map, append-assoc}
-use lib.ListN.{length, getD, take, drop, length-append, length-drop, length-replicate}
-use lib.Seq.{drop-at, getD-drop}
+use lib.ListN.{length, getD, drop, length-append, length-drop}
+use lib.Seq.{drop-at}
 use lib.Dec.{lit<}
 use Rattle.fields.specs.Lists.{All, total}
-use Rattle.fields.specs.Bytes.{Bytes, AllBytes, part, num, bytesOf, zeros, join, Fit, start}
+use Rattle.fields.specs.Bytes.{Bytes, AllBytes, part, num, bytesOf, join, Fit, start}
 use Rattle.fields.specs.Text.{cut, padded}
 use Rattle.records.specs.Records.{Record, recordWidths, frontSize, payloadLength, recordOf, sizeOf, places, walk, walkEnd, recordFields, recordBytes, recordLen, recordsBytes}
 use Rattle.fields.proofs.ByteLaws.{num-bytesOf, length-bytesOf, num-part-lt, length-part, field-back, length-join, drop-bytes}

@@ -1,12 +1,12 @@
 -- Laws of copies, byte by byte and by blocks. Assumes nothing.
-use mathlib.Core.Path.{_≡_, refl, sym, ap, _∙_}
-use mathlib.Core.List.{List, [], _∷_, _++_, append-assoc, append-nil}
-use Prim.Native.Nat.{ℕ, zero, suc, _+_, _-_, _*_, _≤_, _<_}
+use mathlib.Core.Path.{_≡_, sym, ap, _∙_}
+use mathlib.Core.List.{List, _++_, append-assoc}
+use Prim.Native.Nat.{ℕ, suc, _+_, _-_, _≤_, _<_}
 use native.Mathlib.Numerals.{add-one}
 use native.Mathlib.Omega.{arith}
-use lib.ListN.{length, take, drop, getD, set, length-drop, length-append, drop-of-length-le, replicate}
+use lib.ListN.{length, take, drop, getD, set, length-drop}
 use native.Mathlib.Nat.{add-assoc}
-use lib.Seq.{paste, paste-suc, length-paste-head, drop-paste, getD-drop, length-take-le, take-append-le, take-append-add, take-take, sets, sets-eq, take-at, take-all, take-add, drop-drop, getD-set-same, getD-set-other}
+use lib.Seq.{paste, paste-suc, length-paste-head, drop-paste, getD-drop, length-take-le, take-append-le, take-append-add, take-take, take-add, drop-drop, getD-set-same, getD-set-other}
 use borrow.Author.Count.{below-more}
 
 -- a turn of a loop that copies from the front on
@@ -47,10 +47,3 @@ agree-more l s from j h all =
     below-more (λ (k : ℕ). getD (set l j (getD s (from + j) 0)) k 0 ≡ getD s (from + k) 0) j
     (λ k less. getD-set-other l j k (getD s (from + j) 0) 0 (λ e. omega arith) ∙ all k less)
     (getD-set-same l j (getD s (from + j) 0) 0 h)
-
--- the same, from an index on: a second copy of m elements, from the j-th on
-pub paste-block : (d : List ℕ) (at : ℕ) (s : List ℕ) (from i j m : ℕ) → at + (j + m) ≤ length d → from + (j + m) ≤ length s → j ≤ i → i ≤ j + m
-    → paste (paste d at (drop from s) i) (at + j) (drop (from + j) s) m ≡ paste d at (drop from s) (j + m)
-paste-block d at s from i j m hd hs ji im =
-    let h : j + m ≤ length (drop from s) = simp length-drop (omega arith) in
-    rw (← drop-drop j from s) (paste-over d at (drop from s) i j m hd h ji im)

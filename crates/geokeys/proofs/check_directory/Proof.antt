@@ -1,5 +1,5 @@
 -- `geokeys::check_directory` meets its contract. Assumes nothing.
-use mathlib.Core.Path.{_≡_, sym, _∙_}
+use mathlib.Core.Path.{_≡_, sym}
 use mathlib.Core.Logic.{inl, inr}
 use mathlib.Core.List.{[], _∷_}
 use native.Mathlib.Omega.{arith}
@@ -12,11 +12,6 @@ use Rattle.geokeys.specs.GeoKeys.{keyCount}
 use borrow.Author.Needs.{needs}
 use Rattle.geokeys.proofs.check_directory.Statement.{statement}
 use Rattle.geokeys.proofs.check_directory.Tie as tie
-use Rattle.geokeys.proofs.check_directory.Reads as reads
-use Rattle.geokeys.proofs.check_directory.Lts as lts
-use Rattle.fields.proofs.numbers.number_at.Reads as number-at-reads
-use Rattle.runs.proofs.part_at.Reads as part-at-reads
-use Rattle.runs.proofs.same_bytes.Reads as same-bytes-reads
 
 -- 1, 1, 0
 abbrev opening : Bytes

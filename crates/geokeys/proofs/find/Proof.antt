@@ -11,12 +11,6 @@ use Rattle.geokeys.proofs.SearchLaws.{answer-passes, answer-fails, plac
 use borrow.Author.Needs.{needs}
 use Rattle.geokeys.proofs.find.Statement.{statement}
 use Rattle.geokeys.proofs.find.Tie as tie
-use Rattle.geokeys.proofs.find.Reads as reads
-use Rattle.geokeys.proofs.find.Lts as lts
-use Rattle.geokeys.proofs.find_projection.Reads as find-projection-reads
-use Rattle.geokeys.proofs.from_directory.Reads as from-directory-reads
-use Rattle.geokeys.proofs.payload_at.Reads as payload-at-reads
-use Rattle.lasfile.proofs.checks.check_file.Reads as check-file-reads
 
 passed : (c : tie.After-enum-told) → fileVerdict (now (c .before .before .before .before .args .file)) ≡ Passes
 passed c = sym (c .before .before .check-file .ensures) ∙ c .enum-told .given .1

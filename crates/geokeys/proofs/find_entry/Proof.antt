@@ -1,6 +1,6 @@
 -- `geokeys::find_entry` meets its contract. The loop's invariant: the first entry is the first of those still to look at.
 -- Assumes nothing.
-use mathlib.Core.Path.{_≡_, refl, sym, ap, _∙_}
+use mathlib.Core.Path.{_≡_, sym, ap, _∙_}
 use mathlib.Core.Bool.{Bool}
 use mathlib.Core.List.{_∷_}
 use Prim.Native.Nat.{ℕ, zero, suc, _+_, _*_, _-_, _≤_, _<_}
@@ -18,9 +18,6 @@ use Rattle.geokeys.specs.declared.Found.the-variants.{At, Nothing}
 use Rattle.geokeys.proofs.SearchLaws.{first-here, first-later, first-none}
 use Rattle.geokeys.proofs.find_entry.Statement.{statement}
 use Rattle.geokeys.proofs.find_entry.Tie as tie
-use Rattle.geokeys.proofs.find_entry.Reads as reads
-use Rattle.geokeys.proofs.find_entry.Lts as lts
-use Rattle.fields.proofs.numbers.number_at.Reads as number-at-reads
 
 abbrev has : ℕ → Bytes → Bool
 has key e = eqb (keyOf e) key

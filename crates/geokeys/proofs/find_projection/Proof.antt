@@ -1,12 +1,11 @@
 -- `geokeys::find_projection` meets its contract. The loop's invariant: the first record is the first of those still to walk.
 -- Assumes nothing.
-use mathlib.Core.Path.{_≡_, refl, sym, ap, _∙_}
-use mathlib.Core.Bool.{Bool, true, false}
+use mathlib.Core.Path.{_≡_, sym, ap, _∙_}
+use mathlib.Core.Bool.{true, false}
 use Prim.Native.Nat.{ℕ, zero, suc, _+_, _-_, _≤_, _<_, _^_}
 use native.Mathlib.Omega.{arith}
 use borrow.Author.Needs.{needs}
 use denote.Ref.{now}
-use mathlib.Core.List.{[]}
 use lib.ListN.{drop}
 use Rattle.fields.specs.Bytes.{Bytes, AllBytes, part, num}
 use Rattle.fields.specs.declared.Verdict.the-variants.{Passes}
@@ -14,17 +13,13 @@ use Rattle.fields.proofs.ByteLaws.{num-part-lt, part-drop}
 use Rattle.records.specs.Records.{places, walkEnd, sizeOf, payloadLength}
 use Rattle.records.proofs.RecordLaws.{walkEnd-step, walk-grows, front-in-size}
 use Rattle.lasfile.specs.Header.{headerSize, recordCount, pointOffset, recordsEnd, fileVerdict}
-use Rattle.lasfile.proofs.Passed.{Passed, passed}
+use Rattle.lasfile.proofs.Passed.{passed}
 use Rattle.geokeys.specs.GeoKeys.{first, isProjection, projectionPlace}
 use Rattle.geokeys.specs.Places.{placeIn}
 use Rattle.geokeys.specs.declared.Found.the-variants.{At, Nothing}
 use Rattle.geokeys.proofs.SearchLaws.{first-here, first-later, first-none}
 use Rattle.geokeys.proofs.find_projection.Statement.{statement}
 use Rattle.geokeys.proofs.find_projection.Tie as tie
-use Rattle.geokeys.proofs.find_projection.Reads as reads
-use Rattle.geokeys.proofs.find_projection.Lts as lts
-use Rattle.fields.proofs.numbers.number_at.Reads as number-at-reads
-use Rattle.geokeys.proofs.is_projection.Reads as is-projection-reads
 
 -- `left` records from `at` on are still to look at
 record Searching (s : Bytes) (id left at : ℕ) : Type 0 where

@@ -10,12 +10,6 @@ use Rattle.geokeys.proofs.SearchLaws.{answer-passes, answer-fails, entr
 use borrow.Author.Needs.{needs}
 use Rattle.geokeys.proofs.from_directory.Statement.{statement}
 use Rattle.geokeys.proofs.from_directory.Tie as tie
-use Rattle.geokeys.proofs.from_directory.Reads as reads
-use Rattle.geokeys.proofs.from_directory.Lts as lts
-use Rattle.geokeys.proofs.check_directory.Reads as check-directory-reads
-use Rattle.geokeys.proofs.find_entry.Reads as find-entry-reads
-use Rattle.geokeys.proofs.from_entry.Reads as from-entry-reads
-use Rattle.runs.proofs.part_at.Reads as part-at-reads
 
 passed : (c : tie.After-enum-told) → firstFailing (directoryChecks (now (c .before .before .before .before .before .args .directory))) ≡ Passes
 passed c = sym (c .before .before .check-directory .ensures) ∙ c .enum-told .given .1

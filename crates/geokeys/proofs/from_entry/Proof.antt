@@ -2,7 +2,7 @@
 use mathlib.Core.Path.{_≡_, sym, ap, _∙_, subst}
 use mathlib.Core.Bool.{Bool, true, false, _||_}
 use mathlib.Core.Option.{some}
-use Prim.Native.Nat.{ℕ, _+_, _<_}
+use Prim.Native.Nat.{ℕ}
 use native.Mathlib.Omega.{arith}
 use borrow.Author.Tests.{not-true, not-false, eq-eqb, ne-eqb}
 use denote.Ref.{now}
@@ -11,18 +11,12 @@ use Rattle.fields.specs.Bytes.{Bytes}
 use Rattle.fields.specs.Checks.{firstFailing}
 use Rattle.fields.specs.declared.Verdict.the-variants.{Passes}
 use Rattle.fields.proofs.CheckLaws.{first-fails, first-clear, all-clear}
-use Rattle.geokeys.specs.GeoKeys.{projectionPlace, payloadAt, locationOf, countOf, offsetOf, entryChecks, either, doubleIn, textIn, inParameters, fromEntry}
+use Rattle.geokeys.specs.GeoKeys.{projectionPlace, locationOf, countOf, offsetOf, entryChecks, either, doubleIn, textIn, inParameters, fromEntry}
 use Rattle.geokeys.specs.declared.GeoKey.the-variants.{Value, Refused}
 use Rattle.geokeys.proofs.SearchLaws.{answer-passes, answer-fails, either-first, either-second, placed, nowhere, low-place}
 use borrow.Author.Needs.{needs}
 use Rattle.geokeys.proofs.from_entry.Statement.{statement}
 use Rattle.geokeys.proofs.from_entry.Tie as tie
-use Rattle.geokeys.proofs.from_entry.Reads as reads
-use Rattle.geokeys.proofs.from_entry.Lts as lts
-use Rattle.fields.proofs.numbers.number_at.Reads as number-at-reads
-use Rattle.geokeys.proofs.find_projection.Reads as find-projection-reads
-use Rattle.geokeys.proofs.in_payload.Reads as in-payload-reads
-use Rattle.geokeys.proofs.payload_at.Reads as payload-at-reads
 
 -- whether a location is one of the three, and whether a count is right for it
 abbrev known : ℕ → Bool

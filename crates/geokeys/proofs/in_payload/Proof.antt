@@ -15,9 +15,6 @@ use Rattle.geokeys.proofs.SearchLaws.{answer-passes, answer-fails, eith
 use borrow.Author.Needs.{needs}
 use Rattle.geokeys.proofs.in_payload.Statement.{statement}
 use Rattle.geokeys.proofs.in_payload.Tie as tie
-use Rattle.geokeys.proofs.in_payload.Reads as reads
-use Rattle.geokeys.proofs.in_payload.Lts as lts
-use Rattle.fields.proofs.numbers.number_at.Reads as number-at-reads
 
 number-at-requires : tie.Need-number-at-requires
 number-at-requires c κs = search needs

@@ -1,6 +1,5 @@
 -- `geokeys::is_projection` meets its contract. Assumes nothing.
 use mathlib.Core.Path.{_≡_, refl, sym, ap, _∙_}
-use Prim.Native.Nat.{_+_}
 use lib.ListN.{drop}
 use Rattle.fields.specs.Bytes.{Bytes, part, num, same}
 use Rattle.fields.specs.Text.{cut}
@@ -10,11 +9,6 @@ use Rattle.geokeys.specs.GeoKeys.{projection, isProjection}
 use borrow.Author.Needs.{needs}
 use Rattle.geokeys.proofs.is_projection.Statement.{statement}
 use Rattle.geokeys.proofs.is_projection.Tie as tie
-use Rattle.geokeys.proofs.is_projection.Reads as reads
-use Rattle.geokeys.proofs.is_projection.Lts as lts
-use Rattle.fields.proofs.numbers.number_at.Reads as number-at-reads
-use Rattle.runs.proofs.part_at.Reads as part-at-reads
-use Rattle.texts.proofs.same_cut.Reads as same-cut-reads
 
 add-part-at : tie.Need-add-part-at
 add-part-at c = search needs

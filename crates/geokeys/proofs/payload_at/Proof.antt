@@ -9,10 +9,6 @@ use Rattle.geokeys.specs.GeoKeys.{payloadAt}
 use borrow.Author.Needs.{needs}
 use Rattle.geokeys.proofs.payload_at.Statement.{statement}
 use Rattle.geokeys.proofs.payload_at.Tie as tie
-use Rattle.geokeys.proofs.payload_at.Reads as reads
-use Rattle.geokeys.proofs.payload_at.Lts as lts
-use Rattle.fields.proofs.numbers.number_at.Reads as number-at-reads
-use Rattle.runs.proofs.part_at.Reads as part-at-reads
 
 add-part-at : tie.Need-add-part-at
 add-part-at c = search needs

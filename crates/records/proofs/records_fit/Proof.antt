@@ -1,7 +1,7 @@
 -- `records::records_fit` meets its contract. The loop's invariant: the records still to walk end where all of them do.
 -- Assumes nothing.
 use mathlib.Core.Path.{_≡_, refl, sym, ap, _∙_}
-use mathlib.Core.Bool.{Bool, true, false}
+use mathlib.Core.Bool.{true, false}
 use Prim.Native.Nat.{ℕ, zero, suc, _+_, _-_, _≤_, _<_}
 use native.Mathlib.Omega.{arith}
 use borrow.Author.Needs.{needs}
@@ -13,10 +13,6 @@ use Rattle.records.specs.Records.{sizeOf, walkEnd}
 use Rattle.records.proofs.RecordLaws.{walk-grows, walkEnd-step, front-in-size}
 use Rattle.records.proofs.records_fit.Statement.{statement}
 use Rattle.records.proofs.records_fit.Tie as tie
-use Rattle.records.proofs.records_fit.Reads as reads
-use Rattle.records.proofs.records_fit.Lts as lts
-use Rattle.fields.proofs.numbers.fits_in.Reads as fits-in-reads
-use Rattle.records.proofs.size_at.Reads as size-at-reads
 
 -- one record more is walked
 next : (s : Bytes) (left at size : ℕ) → 0 < left → size ≡ sizeOf 2 (drop at s) → walkEnd 2 left at s ≡ walkEnd 2 (left - 1) (at + size) s

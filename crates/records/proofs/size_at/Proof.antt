@@ -1,6 +1,6 @@
 -- `records::size_at` meets its contract. Assumes nothing.
-use mathlib.Core.Path.{_≡_, ap, _∙_}
-use Prim.Native.Nat.{ℕ, _+_, _≤_, _<_}
+use mathlib.Core.Path.{_≡_, ap}
+use Prim.Native.Nat.{ℕ, _+_}
 use native.Mathlib.Omega.{arith}
 use lib.ListN.{drop}
 use Rattle.fields.specs.Bytes.{Bytes, part, num}
@@ -9,9 +9,6 @@ use Rattle.records.specs.Records.{sizeOf, payloadLength}
 use borrow.Author.Needs.{needs}
 use Rattle.records.proofs.size_at.Statement.{statement}
 use Rattle.records.proofs.size_at.Tie as tie
-use Rattle.records.proofs.size_at.Reads as reads
-use Rattle.records.proofs.size_at.Lts as lts
-use Rattle.fields.proofs.numbers.number_at.Reads as number-at-reads
 
 size-is : (s : Bytes) (at n : ℕ) → n ≡ num (part (at + 20) 2 s) → 54 + n ≡ sizeOf 2 (drop at s)
 unfolding sizeOf payloadLength

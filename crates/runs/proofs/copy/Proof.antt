@@ -1,6 +1,6 @@
 -- `runs::copy` meets its contract. Assumes nothing.
 use mathlib.Core.Path.{_≡_, sym, _∙_}
-use Prim.Native.Nat.{ℕ, _+_, _-_, _≤_, min}
+use Prim.Native.Nat.{ℕ, _-_, _≤_, min}
 use native.Mathlib.Omega.{arith}
 use lib.ListN.{length}
 use lib.Seq.{paste, sets}
@@ -9,11 +9,6 @@ use Rattle.fields.proofs.StoreLaws.{sets-out, paste-sets, sets-least}
 use borrow.Author.Needs.{needs}
 use Rattle.runs.proofs.copy.Statement.{statement}
 use Rattle.runs.proofs.copy.Tie as tie
-use Rattle.runs.proofs.copy.Reads as reads
-use Rattle.runs.proofs.copy.Lts as lts
-use Rattle.runs.proofs.copy_blocks.Reads as copy-blocks-reads
-use Rattle.runs.proofs.copy_bytes.Reads as copy-bytes-reads
-use Rattle.fields.proofs.numbers.least.Reads as least-reads
 
 -- as many bytes as there is room for
 as-far : (d : Bytes) (at : ℕ) (s : Bytes) (n : ℕ) → at ≤ length d → n ≡ min (length s) (length d - at) → paste d at s n ≡ sets d at s

@@ -9,8 +9,6 @@ use Rattle.fields.proofs.ByteLaws.{part-past}
 use borrow.Author.Needs.{needs}
 use Rattle.runs.proofs.part_at.Statement.{statement}
 use Rattle.runs.proofs.part_at.Tie as tie
-use Rattle.runs.proofs.part_at.Reads as reads
-use Rattle.runs.proofs.part_at.Lts as lts
 
 -- two counts that both reach the end
 take-both : (m n : ℕ) (l : Bytes) → length l ≤ m → length l ≤ n → take m l ≡ take n l

@@ -11,9 +11,6 @@ use Rattle.fields.specs.Bytes.{Bytes, zeros}
 use Rattle.fields.proofs.StoreLaws.{sets-out, sets-least}
 use Rattle.runs.proofs.zero.Statement.{statement}
 use Rattle.runs.proofs.zero.Tie as tie
-use Rattle.runs.proofs.zero.Reads as reads
-use Rattle.runs.proofs.zero.Lts as lts
-use Rattle.fields.proofs.numbers.least.Reads as least-reads
 
 -- one zero more is written
 turn : (d whole : Bytes) (i end : ℕ) → i < end → sets d i (zeros (end - i)) ≡ whole → sets (set d i 0) (i + 1) (zeros (end - (i + 1))) ≡ whole

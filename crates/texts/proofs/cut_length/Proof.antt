@@ -1,9 +1,9 @@
 -- `texts::cut_length` meets its contract. The loop's invariant: the cut is i bytes and the cut of the rest. Assumes nothing.
-use mathlib.Core.Path.{_≡_, refl, sym, ap, _∙_}
-use Prim.Native.Nat.{ℕ, suc, _+_, _-_, _≤_, _<_}
+use mathlib.Core.Path.{_≡_}
+use Prim.Native.Nat.{_+_, _-_, _≤_}
 use native.Mathlib.Omega.{arith}
 use native.Mathlib.Numerals.{add-one}
-use lib.ListN.{length, getD, drop, length-drop}
+use lib.ListN.{length, drop, length-drop}
 use Rattle.fields.specs.Text.{cut}
 use Rattle.fields.proofs.TextLaws.{cut-stops, cut-goes, length-cut}
 use Rattle.texts.proofs.cut_length.Statement.{statement}

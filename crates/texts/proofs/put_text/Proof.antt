@@ -1,9 +1,9 @@
 -- `texts::put_text` meets its contract. Assumes nothing.
 use mathlib.Core.Path.{_≡_, sym, ap, _∙_}
-use Prim.Native.Nat.{ℕ, _+_, _-_, _≤_, _<_}
+use Prim.Native.Nat.{ℕ, _+_, _-_, _≤_}
 use native.Mathlib.Omega.{arith}
 use borrow.Author.Needs.{needs}
-use mathlib.Core.List.{_++_, append-nil}
+use mathlib.Core.List.{append-nil}
 use denote.Ref.{now}
 use lib.ListN.{length}
 use lib.Seq.{sets}
@@ -13,12 +13,6 @@ use Rattle.fields.proofs.StoreLaws.{sets-out, sets-append}
 use Rattle.fields.proofs.TextLaws.{cut-front, length-cut}
 use Rattle.texts.proofs.put_text.Statement.{statement}
 use Rattle.texts.proofs.put_text.Tie as tie
-use Rattle.texts.proofs.put_text.Reads as reads
-use Rattle.texts.proofs.put_text.Lts as lts
-use Rattle.runs.proofs.copy.Reads as copy-reads
-use Rattle.runs.proofs.part_at.Reads as part-at-reads
-use Rattle.runs.proofs.zero.Reads as zero-reads
-use Rattle.texts.proofs.cut_length.Reads as cut-length-reads
 
 -- the cut, and zeros behind it
 in-field : (d : Bytes) (at w : ℕ) (t : Bytes)

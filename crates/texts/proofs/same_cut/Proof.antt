@@ -6,11 +6,6 @@ use Rattle.fields.proofs.TextLaws.{cut-front}
 use borrow.Author.Needs.{needs}
 use Rattle.texts.proofs.same_cut.Statement.{statement}
 use Rattle.texts.proofs.same_cut.Tie as tie
-use Rattle.texts.proofs.same_cut.Reads as reads
-use Rattle.texts.proofs.same_cut.Lts as lts
-use Rattle.runs.proofs.part_at.Reads as part-at-reads
-use Rattle.runs.proofs.same_bytes.Reads as same-bytes-reads
-use Rattle.texts.proofs.cut_length.Reads as cut-length-reads
 
 cut-length-requires : tie.Need-cut-length-requires
 cut-length-requires c κs = search needs

@@ -2,10 +2,6 @@
 use borrow.Author.Needs.{needs}
 use Rattle.fields.proofs.numbers.number_at.Statement.{statement}
 use Rattle.fields.proofs.numbers.number_at.Tie as tie
-use Rattle.fields.proofs.numbers.number_at.Reads as reads
-use Rattle.fields.proofs.numbers.number_at.Lts as lts
-use Rattle.fields.proofs.numbers.least.Reads as least-reads
-use Rattle.fields.proofs.numbers.number_within.Reads as number-within-reads
 
 least-requires : tie.Need-least-requires
 least-requires c κs = search needs

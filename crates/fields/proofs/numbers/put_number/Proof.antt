@@ -1,6 +1,6 @@
 -- `fields::numbers::put_number` meets its contract: it writes as many bytes as there is room for. Assumes nothing.
 use mathlib.Core.Path.{_≡_, refl, sym, ap, _∙_}
-use Prim.Native.Nat.{ℕ, zero, suc, _+_, _-_, _/_, _%_, _≤_, min}
+use Prim.Native.Nat.{ℕ, zero, suc, _-_, _/_, _%_, _≤_, min}
 use native.Mathlib.Omega.{arith}
 use mathlib.Core.List.{_∷_}
 use lib.ListN.{length, take}
@@ -11,10 +11,6 @@ use Rattle.fields.proofs.StoreLaws.{sets-out, sets-least}
 use borrow.Author.Needs.{needs}
 use Rattle.fields.proofs.numbers.put_number.Statement.{statement}
 use Rattle.fields.proofs.numbers.put_number.Tie as tie
-use Rattle.fields.proofs.numbers.put_number.Reads as reads
-use Rattle.fields.proofs.numbers.put_number.Lts as lts
-use Rattle.fields.proofs.numbers.least.Reads as least-reads
-use Rattle.fields.proofs.numbers.put_within.Reads as put-within-reads
 
 lowest : (m w n : ℕ) → m ≤ w → take m (bytesOf w n) ≡ bytesOf m n
 unfolding bytesOf

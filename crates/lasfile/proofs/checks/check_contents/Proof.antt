@@ -1,30 +1,18 @@
 -- `lasfile::checks::check_contents` meets its contract. Assumes nothing.
 use mathlib.Core.Path.{_≡_, sym, ap, _∙_, subst}
-use mathlib.Core.Bool.{Bool, true, false}
-use Prim.Native.Nat.{ℕ, _+_, _*_, _^_, _≤_, _<_}
-use native.Mathlib.Nat.{mul-le-mul}
+use mathlib.Core.Bool.{true, false}
+use Prim.Native.Nat.{_+_, _*_, _≤_}
 use native.Mathlib.Omega.{arith}
 use borrow.Author.Tests.{leb-true, leb-false, not-true, not-false}
 use denote.Ref.{now}
 use lib.Dec.{T, leb}
-use Rattle.fields.specs.Bytes.{Bytes}
 use Rattle.fields.proofs.CheckLaws.{first-fails, first-clear, all-clear}
-use Rattle.records.specs.Records.{walkEnd}
 use Rattle.scaling.specs.Scaling.{scalingOf, goodScaling}
+use Rattle.lasfile.proofs.Passed.{product-small}
 use Rattle.lasfile.specs.Header.{headerSize, pointOffset, recordCount, recordLength, pointCount, recordsEnd}
 use borrow.Author.Needs.{needs}
 use Rattle.lasfile.proofs.checks.check_contents.Statement.{statement}
 use Rattle.lasfile.proofs.checks.check_contents.Tie as tie
-use Rattle.lasfile.proofs.checks.check_contents.Reads as reads
-use Rattle.lasfile.proofs.checks.check_contents.Lts as lts
-use Rattle.fields.proofs.numbers.number_at.Reads as number-at-reads
-use Rattle.records.proofs.records_fit.Reads as records-fit-reads
-use Rattle.scaling.proofs.Scaling.is_good.Reads as is-good-reads
-use Rattle.scaling.proofs.Scaling.read.Reads as read-reads
-
--- a count of 4 bytes times a length of 2
-product-small : (n w : ℕ) → n < 2 ^ 32 → w < 2 ^ 16 → n * w ≤ 2 ^ 48
-product-small n w h k = mul-le-mul {n₁ = n} {m₁ = w} {n₂ = 2 ^ 32} {m₂ = 2 ^ 16} (omega arith) (omega arith)
 
 -- what walking the records says
 ends : (c : tie.After-records-fit) → c .records-fit .result ≡ leb (recordsEnd (now (c .before .before .before .before .before .args .file))) (pointOffset (now (c .before .before .before .before .before .args .file)))

@@ -6,10 +6,6 @@ use Rattle.lasfile.specs.Header.{fileChecks, fileVerdict}
 use borrow.Author.Needs.{needs}
 use Rattle.lasfile.proofs.checks.check_file.Statement.{statement}
 use Rattle.lasfile.proofs.checks.check_file.Tie as tie
-use Rattle.lasfile.proofs.checks.check_file.Reads as reads
-use Rattle.lasfile.proofs.checks.check_file.Lts as lts
-use Rattle.lasfile.proofs.checks.check_contents.Reads as check-contents-reads
-use Rattle.lasfile.proofs.checks.check_header.Reads as check-header-reads
 
 check-header-requires : tie.Need-check-header-requires
 check-header-requires c κs = search needs

@@ -11,12 +11,6 @@ use Rattle.lasfile.specs.Header.{signature, version, headerSize}
 use borrow.Author.Needs.{needs}
 use Rattle.lasfile.proofs.checks.check_header.Statement.{statement}
 use Rattle.lasfile.proofs.checks.check_header.Tie as tie
-use Rattle.lasfile.proofs.checks.check_header.Reads as reads
-use Rattle.lasfile.proofs.checks.check_header.Lts as lts
-use Rattle.fields.proofs.numbers.number_at.Reads as number-at-reads
-use Rattle.lasfile.proofs.checks.check_points.Reads as check-points-reads
-use Rattle.runs.proofs.part_at.Reads as part-at-reads
-use Rattle.runs.proofs.same_bytes.Reads as same-bytes-reads
 
 signed : (c : tie.Else2) → part 0 4 (now (c .before .before .before .before .before .before .args .file)) ≡ signature
 signed c = agrees _ _ _ signature (c .before .same-bytes .ensures) (c .before .before .before .part-at .ensures) (not-false _ (c .if2 .left))

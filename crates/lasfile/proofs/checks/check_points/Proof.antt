@@ -10,10 +10,6 @@ use Rattle.lasfile.specs.Header.{format, recordLength, pointOffset, head
 use borrow.Author.Needs.{needs}
 use Rattle.lasfile.proofs.checks.check_points.Statement.{statement}
 use Rattle.lasfile.proofs.checks.check_points.Tie as tie
-use Rattle.lasfile.proofs.checks.check_points.Reads as reads
-use Rattle.lasfile.proofs.checks.check_points.Lts as lts
-use Rattle.fields.proofs.numbers.number_at.Reads as number-at-reads
-use Rattle.formats.proofs.layout_of.Reads as layout-of-reads
 
 -- the size of the layout that was found
 size-is : (l : Layout) (n m : ℕ) → l ≡ layoutOf n → n ≡ m → l .size ≡ formatSize m

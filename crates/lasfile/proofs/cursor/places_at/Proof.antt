@@ -10,11 +10,6 @@ use Rattle.lasfile.specs.Steps.{recordPlaces}
 use borrow.Author.Needs.{needs}
 use Rattle.lasfile.proofs.cursor.places_at.Statement.{statement}
 use Rattle.lasfile.proofs.cursor.places_at.Tie as tie
-use Rattle.lasfile.proofs.cursor.places_at.Reads as reads
-use Rattle.lasfile.proofs.cursor.places_at.Lts as lts
-use Rattle.fields.proofs.numbers.number_at.Reads as number-at-reads
-use Rattle.runs.proofs.part_at.Reads as part-at-reads
-use Rattle.texts.proofs.cut_length.Reads as cut-length-reads
 
 add-t3 : tie.Need-add-t3
 add-t3 c = search needs

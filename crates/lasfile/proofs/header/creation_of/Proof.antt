@@ -3,11 +3,6 @@ use Rattle.lasfile.specs.Header.{creationOf}
 use borrow.Author.Needs.{needs}
 use Rattle.lasfile.proofs.header.creation_of.Statement.{statement}
 use Rattle.lasfile.proofs.header.creation_of.Tie as tie
-use Rattle.lasfile.proofs.header.creation_of.Reads as reads
-use Rattle.lasfile.proofs.header.creation_of.Lts as lts
-use Rattle.fields.proofs.numbers.number_at.Reads as number-at-reads
-use Rattle.runs.proofs.part_at.Reads as part-at-reads
-use Rattle.texts.proofs.cut_length.Reads as cut-length-reads
 
 part-at-requires : tie.Need-part-at-requires
 part-at-requires c κs = search needs

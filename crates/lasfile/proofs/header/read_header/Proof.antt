@@ -1,18 +1,9 @@
 -- `lasfile::header::read_header` meets its contract. Assumes nothing.
-use mathlib.Core.Path.{_≡_, sym, _∙_}
+use mathlib.Core.Path.{sym, _∙_}
 use Rattle.lasfile.specs.Header.{headerRead, headerOf, fieldsIf}
 use borrow.Author.Needs.{needs}
 use Rattle.lasfile.proofs.header.read_header.Statement.{statement}
 use Rattle.lasfile.proofs.header.read_header.Tie as tie
-use Rattle.lasfile.proofs.header.read_header.Reads as reads
-use Rattle.lasfile.proofs.header.read_header.Lts as lts
-use Rattle.lasfile.proofs.checks.check_file.Reads as check-file-reads
-use Rattle.lasfile.proofs.header.by_return_of.Reads as by-return-of-reads
-use Rattle.lasfile.proofs.header.creation_of.Reads as creation-of-reads
-use Rattle.lasfile.proofs.header.identity_of.Reads as identity-of-reads
-use Rattle.lasfile.proofs.header.layout_of.Reads as layout-of-reads
-use Rattle.lasfile.proofs.header.stated_bounds.Reads as stated-bounds-reads
-use Rattle.scaling.proofs.Scaling.read.Reads as read-reads
 
 check-file-requires : tie.Need-check-file-requires
 check-file-requires c κs = search needs

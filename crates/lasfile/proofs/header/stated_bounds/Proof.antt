@@ -3,9 +3,6 @@ use Rattle.lasfile.specs.Header.{statedBounds}
 use borrow.Author.Needs.{needs}
 use Rattle.lasfile.proofs.header.stated_bounds.Statement.{statement}
 use Rattle.lasfile.proofs.header.stated_bounds.Tie as tie
-use Rattle.lasfile.proofs.header.stated_bounds.Reads as reads
-use Rattle.lasfile.proofs.header.stated_bounds.Lts as lts
-use Rattle.fields.proofs.numbers.number_at.Reads as number-at-reads
 
 number-at-requires : tie.Need-number-at-requires
 number-at-requires c κs = search needs

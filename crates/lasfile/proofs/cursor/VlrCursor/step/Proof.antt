@@ -1,7 +1,7 @@
 -- `lasfile::cursor::VlrCursor::step` meets its contract. Assumes nothing.
-use mathlib.Core.Path.{_≡_, sym, ap, _∙_, subst}
+use mathlib.Core.Path.{_≡_, sym, _∙_, subst}
 use mathlib.Core.Logic.{inl, inr}
-use mathlib.Core.Bool.{Bool, true, false}
+use mathlib.Core.Bool.{true, false}
 use Prim.Native.Nat.{ℕ, _+_, _≤_, _<_}
 use native.Mathlib.Omega.{arith}
 use borrow.Author.Tests.{le-ltb, lt-ltb, leb-true, leb-false, not-true, not-false}
@@ -10,7 +10,7 @@ use lib.Dec.{T, ltb, leb}
 use lib.ListN.{drop}
 use Rattle.fields.specs.Bytes.{Bytes}
 use Rattle.fields.specs.declared.Verdict.the-variants.{Passes}
-use Rattle.records.specs.Records.{walkEnd, sizeOf, payloadLength}
+use Rattle.records.specs.Records.{walkEnd, sizeOf}
 use Rattle.records.proofs.RecordLaws.{walkEnd-one, front-in-size}
 use Rattle.lasfile.specs.Header.{headerSize, pointOffset, recordCount, fileVerdict}
 use Rattle.lasfile.specs.Steps.{recordPlaces, nextCursor}
@@ -19,12 +19,6 @@ use Rattle.lasfile.proofs.StepLaws.{refused-by-file, refused-18, answer
 use borrow.Author.Needs.{needs}
 use Rattle.lasfile.proofs.cursor.VlrCursor.step.Statement.{statement}
 use Rattle.lasfile.proofs.cursor.VlrCursor.step.Tie as tie
-use Rattle.lasfile.proofs.cursor.VlrCursor.step.Reads as reads
-use Rattle.lasfile.proofs.cursor.VlrCursor.step.Lts as lts
-use Rattle.fields.proofs.numbers.number_at.Reads as number-at-reads
-use Rattle.lasfile.proofs.checks.check_file.Reads as check-file-reads
-use Rattle.lasfile.proofs.cursor.places_at.Reads as places-at-reads
-use Rattle.records.proofs.records_fit.Reads as records-fit-reads
 
 -- the file passes, from the place where it was told so
 passed : (c : tie.After-enum-told) → fileVerdict (now (c .before .before .before .before .args .file)) ≡ Passes

@@ -1,0 +1,111 @@
+-- Laws of what decoding and encoding give: each answer under its test.
+-- Assumes nothing.
+use mathlib.Core.Path.{_≡_, refl, sym, ap, _∙_, subst}
+use Prim.Native.Nat.{ℕ, _≤_}
+use mathlib.Core.Bool.{Bool, true, false, _&&_, _||_, not, true≢false}
+use mathlib.Core.List.{[], _∷_}
+use lib.ListN.{length}
+use lib.Seq.{sets}
+use lib.Dec.{T, eqb, leb, ltb}
+use borrow.Author.Tests.{eq-eqb, leb-true, leb-false, lt-ltb, le-ltb}
+use Rattle.fields.specs.Bytes.{Bytes}
+use Rattle.fields.specs.Checks.{fails, firstFailing}
+use Rattle.fields.specs.declared.Verdict.the-variants.{Passes, Fails}
+use Rattle.fields.proofs.CheckLaws.{gives, goes-on, unclear}
+use Rattle.formats.specs.Formats.{formatSize, timePlace, colourPlace}
+use Rattle.points.specs.declared.Point.{Point}
+use Rattle.points.specs.declared.Decoded.the-variants.{Fields, Refused}
+use Rattle.points.specs.Points.{shape, numberAt, decodeChecks, fieldsIf, decoded, pointOf, large, encodeChecks, storedIf, encoded, pointBytes}
+
+-- ---- the test of the shape, as the code makes it
+
+above-not : (a b : ℕ) (t : Bool) → leb a b ≡ t → ltb b a ≡ not t
+above-not a b true e = le-ltb b a (leb-true a b e)
+above-not a b false e = lt-ltb b a (leb-false a b e)
+
+all-three : (a b c : Bool) → (a && b) && c ≡ not (not a || (not b || not c))
+all-three true true true = refl
+all-three true true false = refl
+all-three true false c = refl
+all-three false b c = refl
+
+pub shape-test : (f len n size : ℕ) → size ≡ formatSize f → (eqb n len && leb size len) && leb f 3 ≡ not (fails (shape f len n))
+unfolding fails shape
+shape-test f len n size e =
+    rw (e, above-not (formatSize f) len (leb (formatSize f) len) refl, above-not f 3 (leb f 3) refl)
+    (all-three (eqb n len) (leb (formatSize f) len) (leb f 3))
+
+-- the code tests whether the shape is not as it has to be
+not-shaped : (r b : Bool) → r ≡ not b → not r ≡ true → T b
+not-shaped r true e h = tt
+not-shaped r false e h = absurd (true≢false (sym h ∙ ap not e))
+
+shaped : (r b : Bool) → r ≡ not b → not r ≡ false → T (not b)
+shaped r true e h = absurd (true≢false (sym (ap not e) ∙ h))
+shaped r false e h = tt
+
+-- ---- decoding
+
+-- the fields that all formats share, with those that only some have
+pub with-others : (f : ℕ) (p : Bytes) (q : Point) (time red green blue : ℕ) → q ≡ pointOf 0 p
+    → time ≡ numberAt 8 (timePlace f) 0 p → red ≡ numberAt 2 (colourPlace f) 0 p → green ≡ numberAt 2 (colourPlace f) 2 p → blue ≡ numberAt 2 (colourPlace f) 4 p
+    → _≡_ {A = Point}
+    (record {
+      x = q .x;
+      y = q .y;
+      z = q .z;
+      intensity = q .intensity;
+      «return_number» = q .«return_number»;
+      returns = q .returns;
+      «scan_direction» = q .«scan_direction»;
+      edge = q .edge;
+      «class_byte» = q .«class_byte»;
+      «scan_angle» = q .«scan_angle»;
+      «user_data» = q .«user_data»;
+      «source_id» = q .«source_id»;
+      «gps_time» = time;
+      red = red;
+      green = green;
+      blue = blue;
+    })
+    (pointOf f p)
+unfolding pointOf
+with-others f p q time red green blue e t r g b = rw (e, t, r, g, b)
+
+pub refused : (f len : ℕ) (p : Bytes) (r : Bool) → r ≡ not (fails (shape f len (length p))) → not r ≡ true → decoded f len p ≡ Refused 12
+unfolding decoded decodeChecks fieldsIf
+refused f len p r e h = rw (gives 12 (shape f len (length p)) [] (not-shaped r (fails (shape f len (length p))) e h))
+
+pub accepted : (f len : ℕ) (p : Bytes) → T (not (fails (shape f len (length p)))) → decoded f len p ≡ Fields (pointOf f p)
+unfolding decoded decodeChecks fieldsIf firstFailing
+accepted f len p h = rw (goes-on 12 (shape f len (length p)) [] h)
+
+pub accepted-by : (f len : ℕ) (p : Bytes) (r : Bool) → r ≡ not (fails (shape f len (length p))) → not r ≡ false → decoded f len p ≡ Fields (pointOf f p)
+accepted-by f len p r e h = accepted f len p (shaped r (fails (shape f len (length p))) e h)
+
+-- a record of the right length is decoded
+pub decodes : (f len : ℕ) (p : Bytes) → length p ≡ len → formatSize f ≤ len → f ≤ 3 → decoded f len p ≡ Fields (pointOf f p)
+unfolding shape
+decodes f len p e h k = accepted f len p (unclear (shape f len (length p)) (subst T (sym (eq-eqb (length p) len e)) tt, (h, k)))
+
+-- ---- encoding
+
+module _ (f len : ℕ) (q : Point) (room : Bytes) where
+  pub stored : T (not (fails (shape f len (length room)))) → T (not (fails (large q))) → encoded f len q room ≡ (Passes, sets room 0 (pointBytes f q))
+  unfolding encoded encodeChecks storedIf firstFailing
+  stored h k = rw (goes-on 12 (shape f len (length room)) ((13, large q) ∷ []) h, goes-on 13 (large q) [] k)
+
+  -- as the code tests it
+  module _ (r : Bool) (e : r ≡ not (fails (shape f len (length room)))) where
+    pub refused-12 : not r ≡ true → encoded f len q room ≡ (Fails 12, room)
+    unfolding encoded encodeChecks storedIf
+    refused-12 h = rw (gives 12 (shape f len (length room)) ((13, large q) ∷ []) (not-shaped r (fails (shape f len (length room))) e h))
+
+    pub refused-13 : not r ≡ false → ltb 7 (q .«return_number») || ltb 7 (q .returns) ≡ true → encoded f len q room ≡ (Fails 13, room)
+    unfolding encoded encodeChecks storedIf fails large
+    refused-13 h k =
+        rw (goes-on 12 (shape f len (length room)) ((13, large q) ∷ []) (shaped r (fails (shape f len (length room))) e h), gives 13 (large q) [] (rw k tt))
+
+    pub stored-by : not r ≡ false → ltb 7 (q .«return_number») || ltb 7 (q .returns) ≡ false → encoded f len q room ≡ (Passes, sets room 0 (pointBytes f q))
+    unfolding fails large
+    stored-by h k = stored (shaped r (fails (shape f len (length room))) e h) (rw k tt)

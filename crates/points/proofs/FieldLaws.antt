@@ -1,0 +1,35 @@
+-- Laws of single fields: a number at a place, over the place, and the byte at 14.
+-- Assumes nothing.
+use mathlib.Core.Path.{_≡_, refl, sym}
+use Prim.Native.Nat.{ℕ, zero, zero-le, _+_, _-_, _^_, _≤_, _<_}
+use native.Mathlib.Nat.{pow-le-pow-right}
+use native.Mathlib.Omega.{arith}
+use lib.ListN.{length, take, drop, length-drop}
+use lib.Seq.{take-all}
+use Rattle.fields.specs.Bytes.{Bytes, num, part}
+use Rattle.fields.proofs.ByteLaws.{num-past, part-drop}
+use Rattle.formats.specs.declared.Place.{Place}
+use Rattle.formats.specs.declared.Place.the-variants.{At, Absent}
+use Rattle.points.specs.Points.{numberAt}
+
+-- r is the number of w bytes at a place
+abbrev pub Number : ℕ → Place → ℕ → Bytes → ℕ → Type 0
+Number w place shift s r = (r ≡ numberAt w place shift s) × (r < 256 ^ w)
+
+none-fits : (w : ℕ) → 0 < 256 ^ w
+none-fits w = omega (arith, pow-le-pow-right {n = 256} (omega arith) (zero-le {n = w}))
+
+pub number-none : (w : ℕ) (place : Place) (shift : ℕ) (s : Bytes) → place ≡ Absent → Number w place shift s 0
+unfolding numberAt
+number-none w place shift s e = rw e (refl, none-fits w)
+
+pub number-past : (w : ℕ) (place : Place) (shift : ℕ) (s : Bytes) (at : ℕ) → place ≡ At at → length s ≤ at → Number w place shift s 0
+unfolding numberAt
+number-past w place shift s at e h = rw e (sym (num-past (at + shift) w s (omega arith)), none-fits w)
+
+pub number-there : (w : ℕ) (place : Place) (shift : ℕ) (s : Bytes) (at r : ℕ) → place ≡ At at
+    → (r ≡ num (part shift w (take (length s - at) (drop at s)))) × (r < 256 ^ w) → Number w place shift s r
+unfolding numberAt
+number-there w place shift s at r e h =
+    let whole : take (length s - at) (drop at s) ≡ drop at s = take-all (length s - at) (drop at s) (simp length-drop (omega arith)) in
+    rw e (rw (whole, part-drop at shift w s) at (h .0), h .1)

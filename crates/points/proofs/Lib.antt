@@ -1,0 +1,9 @@
+pub mod SignedLaws
+pub mod FieldLaws
+pub mod AnswerLaws
+pub mod RoomLaws
+pub mod LayoutLaws
+pub mod BytesBack
+pub mod FieldsBack
+pub mod RoundTrips
+pub mod Samples

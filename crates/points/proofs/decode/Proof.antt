@@ -1,0 +1,69 @@
+-- `points::decode` meets its contract. Assumes nothing.
+use mathlib.Core.Path.{sym, ap, _∙_}
+use denote.Ref.{now}
+use Rattle.formats.specs.declared.Layout.{Layout}
+use Rattle.formats.specs.declared.Place.{Place}
+use Rattle.formats.specs.Formats.{layoutOf}
+use Rattle.points.specs.declared.Decoded.the-variants.{Fields}
+use Rattle.points.specs.Points.{numberAt}
+use Rattle.points.proofs.AnswerLaws.{refused, accepted-by, with-others}
+use borrow.Author.Needs.{needs}
+use Rattle.points.proofs.decode.Statement.{statement}
+use Rattle.points.proofs.decode.Tie as tie
+
+has-shape-requires : tie.Need-has-shape-requires
+has-shape-requires c κs = search needs
+
+returns : tie.Need-returns
+returns c =
+    let a = c .before .before .before .args in
+    sym (refused (a .format) (a .record-length) (a .bytes .now) _ (c .before .has-shape .ensures) (c .if1 .taken))
+
+layout-of-requires : tie.Need-layout-of-requires
+layout-of-requires c κs = search needs
+
+shared-of-requires : tie.Need-shared-of-requires
+shared-of-requires c κs = search needs
+
+number-in-requires : tie.Need-number-in-requires
+number-in-requires c κs = search needs
+
+u16-in-requires : tie.Need-u16-in-requires
+u16-in-requires c κs = search needs
+
+u16-in-requires-2 : tie.Need-u16-in-requires-2
+u16-in-requires-2 c κs = search needs
+
+u16-in-requires-3 : tie.Need-u16-in-requires-3
+u16-in-requires-3 c κs = search needs
+
+returns-2 : tie.Need-returns-2
+unfolding layoutOf
+returns-2 c =
+    let p = c .before .before .before .before in
+    let a = p .before .before .before .before .before .args in
+    let f = a .format in
+    let s = a .bytes .now in
+    let time = ap (λ (l : Layout). l .time) (p .before .layout-of .ensures) in
+    let colour = ap (λ (l : Layout). l .colour) (p .before .layout-of .ensures) in
+    ap Fields
+    (with-others f s (p .shared-of .result) _ _ _ _ (p .shared-of .ensures)
+    (c .before .before .before .number-in .ensures .0 ∙ ap (λ (k : Place). numberAt 8 k 0 s) time)
+    (c .before .before .u16-in .ensures ∙ ap (λ (k : Place). numberAt 2 k 0 s) colour)
+    (c .before .u16-in2 .ensures ∙ ap (λ (k : Place). numberAt 2 k 2 s) colour)
+    (c .u16-in3 .ensures ∙ ap (λ (k : Place). numberAt 2 k 4 s) colour))
+    ∙ sym (accepted-by f (a .record-length) s _ (p .before .before .before .has-shape .ensures) (p .before .before .if1 .left))
+
+pub decode-spec : {M : Type 1} → statement M
+decode-spec =
+    tie.close
+    (tie.spec
+    has-shape-requires
+    returns
+    layout-of-requires
+    shared-of-requires
+    number-in-requires
+    u16-in-requires
+    u16-in-requires-2
+    u16-in-requires-3
+    returns-2)

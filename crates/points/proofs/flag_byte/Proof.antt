@@ -1,0 +1,73 @@
+-- `points::flag_byte` meets its contract. Assumes nothing.
+use mathlib.Core.Path.{_≡_, refl}
+use Prim.Native.Nat.{_≤_}
+use native.Mathlib.Omega.{arith}
+use mathlib.Core.Bool.{Bool, true, false}
+use mir.Val.{boolByte}
+use borrow.Author.Needs.{needs}
+use Rattle.points.specs.Points.{bit, flagByte}
+use Rattle.points.proofs.flag_byte.Statement.{statement}
+use Rattle.points.proofs.flag_byte.Tie as tie
+
+one-at-most : (b : Bool) → boolByte b ≤ 1
+one-at-most true = omega arith
+one-at-most false = omega arith
+
+as-bit : (b : Bool) → boolByte b ≡ bit b
+unfolding bit
+as-bit true = refl
+as-bit false = refl
+
+cast-result : tie.Need-cast-result
+cast-result c = search needs
+
+cast-result-2 : tie.Need-cast-result-2
+cast-result-2 c = search needs
+
+mul-result : tie.Need-mul-result
+mul-result c = search needs
+
+add-result : tie.Need-add-result
+add-result c = search needs
+
+cast-result-3 : tie.Need-cast-result-3
+cast-result-3 c = search needs
+
+mul-result-2 : tie.Need-mul-result-2
+mul-result-2 c = omega (arith, one-at-most (c .before .before .before .args .point .«scan_direction»))
+
+add-result-2 : tie.Need-add-result-2
+add-result-2 c = omega (arith, one-at-most (c .before .before .before .args .point .«scan_direction»))
+
+cast-result-4 : tie.Need-cast-result-4
+cast-result-4 c = search needs
+
+mul-result-3 : tie.Need-mul-result-3
+mul-result-3 c = omega (arith, one-at-most (c .before .before .before .before .args .point .edge))
+
+add-result-3 : tie.Need-add-result-3
+add-result-3 c =
+    let q = c .before .before .before .before .args .point in
+    omega (arith, one-at-most (q .«scan_direction»), one-at-most (q .edge))
+
+returns : tie.Need-returns
+unfolding flagByte
+returns c =
+    let q = c .before .before .before .before .args .point in
+    rw (as-bit (q .«scan_direction»), as-bit (q .edge))
+
+pub flag-byte-spec : {M : Type 1} → statement M
+flag-byte-spec =
+    tie.close
+    (tie.spec
+    cast-result
+    cast-result-2
+    mul-result
+    add-result
+    cast-result-3
+    mul-result-2
+    add-result-2
+    cast-result-4
+    mul-result-3
+    add-result-3
+    returns)

@@ -1,0 +1,29 @@
+-- `points::i8_of` meets its contract. Assumes nothing.
+use mathlib.Core.Path.{refl}
+use native.Mathlib.Omega.{arith}
+use mir.Syntax.{w8}
+use borrow.Author.Needs.{needs}
+use Rattle.points.proofs.SignedLaws.{high-fits, high-value}
+use Rattle.points.proofs.i8_of.Statement.{statement}
+use Rattle.points.proofs.i8_of.Tie as tie
+
+cast-result : tie.Need-cast-result
+cast-result c = search needs
+
+sub-result : tie.Need-sub-result
+sub-result c = search needs
+
+cast-result-2 : tie.Need-cast-result-2
+cast-result-2 c = search needs
+
+sub-result-2 : tie.Need-sub-result-2
+sub-result-2 c = high-fits w8 (c .before .args .u) 255 refl (c .if1 .left) (omega arith)
+
+returns : tie.Need-returns
+returns c = search needs
+
+returns-2 : tie.Need-returns-2
+returns-2 c = high-value w8 (c .before .args .u) 255 refl (c .if1 .left) (omega arith)
+
+pub i8-of-spec : {M : Type 1} → statement M
+i8-of-spec = tie.close (tie.spec cast-result sub-result cast-result-2 sub-result-2 returns returns-2)

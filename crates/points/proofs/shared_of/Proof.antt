@@ -1,0 +1,94 @@
+-- `points::shared_of` meets its contract, field by field. Assumes nothing.
+use mathlib.Core.Path.{_≡_, ap, _∙_}
+use Prim.Native.Nat.{ℕ, _/_, _%_}
+use native.Mathlib.Omega.{arith}
+use lib.Dec.{eqb}
+use mir.Syntax.{w8, w32}
+use mir.Val.{toZ}
+use mir.ValLaws.{toZ-ofZ}
+use Rattle.formats.specs.Formats.{timePlace, colourPlace}
+use Rattle.points.specs.Points.{bits, numberAt, pointOf}
+use borrow.Author.Needs.{needs}
+use Rattle.points.proofs.shared_of.Statement.{statement}
+use Rattle.points.proofs.shared_of.Tie as tie
+
+u8-at-requires : tie.Need-u8-at-requires
+u8-at-requires c κs = search needs
+
+i32-at-requires : tie.Need-i32-at-requires
+i32-at-requires c κs = search needs
+
+i32-at-requires-2 : tie.Need-i32-at-requires-2
+i32-at-requires-2 c κs = search needs
+
+i32-at-requires-3 : tie.Need-i32-at-requires-3
+i32-at-requires-3 c κs = search needs
+
+u16-at-requires : tie.Need-u16-at-requires
+u16-at-requires c κs = search needs
+
+u8-at-requires-2 : tie.Need-u8-at-requires-2
+u8-at-requires-2 c κs = search needs
+
+u8-at-requires-3 : tie.Need-u8-at-requires-3
+u8-at-requires-3 c κs = search needs
+
+i8-of-requires : tie.Need-i8-of-requires
+i8-of-requires c κs = search needs
+
+u8-at-requires-4 : tie.Need-u8-at-requires-4
+u8-at-requires-4 c κs = search needs
+
+u16-at-requires-2 : tie.Need-u16-at-requires-2
+u16-at-requires-2 c κs = search needs
+
+returns : tie.Need-returns
+unfolding pointOf bits numberAt timePlace colourPlace
+returns c =
+    let source = c .u16-at2 .ensures in
+    let user = c .before .u8-at4 .ensures in
+    let a = c .before .before in
+    let angle = toZ-ofZ w8 (a .i8-of .result) (record { sfits = a .i8-of .ok }) ∙ a .i8-of .ensures ∙ ap (toZ w8) (a .before .u8-at3 .ensures) in
+    let class = a .before .before .u8-at2 .ensures in
+    let intensity = a .before .before .before .u16-at .ensures in
+    let p = a .before .before .before .before in
+    let z = toZ-ofZ w32 (p .i32-at3 .result) (record { sfits = p .i32-at3 .ok }) ∙ p .i32-at3 .ensures in
+    let y = toZ-ofZ w32 (p .before .i32-at2 .result) (record { sfits = p .before .i32-at2 .ok }) ∙ p .before .i32-at2 .ensures in
+    let x = toZ-ofZ w32 (p .before .before .i32-at .result) (record { sfits = p .before .before .i32-at .ok }) ∙ p .before .before .i32-at .ensures in
+    let flags = p .before .before .before .u8-at .ensures in
+    let first : p .before .before .before .u8-at .result % 8 ≡ p .before .before .before .u8-at .result / 1 % 8 = omega arith in
+    λ i.
+    record {
+      x = x i;
+      y = y i;
+      z = z i;
+      intensity = intensity i;
+      «return_number» = (first ∙ ap (λ (b : ℕ). b / 1 % 8) flags) i;
+      returns = flags i / 8 % 8;
+      «scan_direction» = eqb (flags i / 64 % 2) 1;
+      edge = eqb (flags i / 128 % 2) 1;
+      «class_byte» = class i;
+      «scan_angle» = angle i;
+      «user_data» = user i;
+      «source_id» = source i;
+      «gps_time» = 0;
+      red = 0;
+      green = 0;
+      blue = 0;
+    }
+
+pub shared-of-spec : {M : Type 1} → statement M
+shared-of-spec =
+    tie.close
+    (tie.spec
+    u8-at-requires
+    i32-at-requires
+    i32-at-requires-2
+    i32-at-requires-3
+    u16-at-requires
+    u8-at-requires-2
+    u8-at-requires-3
+    i8-of-requires
+    u8-at-requires-4
+    u16-at-requires-2
+    returns)
