@@ -1,4 +1,4 @@
--- Which doubles and which patterns are a NaN's, for the functions that go between the two. Assumes nothing.
+-- Laws of NaNs: which doubles and which patterns are a NaN's, for the functions that go between the two. Assumes nothing.
 use mathlib.Core.Path.{_≡_, refl, sym, _∙_, subst}
 use Prim.Native.Nat.{ℕ, _%_, _^_, _≤_, _<_}
 use mathlib.Core.Bool.{Bool, true, false, not}
@@ -8,7 +8,7 @@ use lib.Ieee.Compare.{differs-from-itself}
 use lib.Ieee.Bits.{nanBits-is, nanBits-above}
 use borrow.Author.Tests.{lt-ltb, le-ltb}
 
-pub nan-of : (x : Float) → isNan x ≡ true → x ≡ nan
+nan-of : (x : Float) → isNan x ≡ true → x ≡ nan
 unfolding isNan
 nan-of nan e = refl
 nan-of (inf s) e = cc

@@ -57,18 +57,18 @@ coordinatesOf c x y z =
       z = coordinateOf z (c .«z_scale») (c .«z_offset»);
     }
 
--- the bits of a bound: of the coordinate of the largest or smallest stored value
-unfoldable pub boundOf : ℤ → Float → Float → ℕ
-boundOf stored scale offset = toBits binary64 (coordinateOf stored scale offset)
+-- the bits of a coordinate
+unfoldable pub coordinateBits : ℤ → Float → Float → ℕ
+coordinateBits stored scale offset = toBits binary64 (coordinateOf stored scale offset)
 
--- the six bounds, in the header's order
+-- the six bounds by their bits, in the header's order: each is the coordinate of the largest or smallest stored value
 unfoldable pub boundsOf : Scaling → Extremes → Bounds
 boundsOf c e =
     record {
-      «max_x» = boundOf (e .«max_x») (c .«x_scale») (c .«x_offset»);
-      «min_x» = boundOf (e .«min_x») (c .«x_scale») (c .«x_offset»);
-      «max_y» = boundOf (e .«max_y») (c .«y_scale») (c .«y_offset»);
-      «min_y» = boundOf (e .«min_y») (c .«y_scale») (c .«y_offset»);
-      «max_z» = boundOf (e .«max_z») (c .«z_scale») (c .«z_offset»);
-      «min_z» = boundOf (e .«min_z») (c .«z_scale») (c .«z_offset»);
+      «max_x» = coordinateBits (e .«max_x») (c .«x_scale») (c .«x_offset»);
+      «min_x» = coordinateBits (e .«min_x») (c .«x_scale») (c .«x_offset»);
+      «max_y» = coordinateBits (e .«max_y») (c .«y_scale») (c .«y_offset»);
+      «min_y» = coordinateBits (e .«min_y») (c .«y_scale») (c .«y_offset»);
+      «max_z» = coordinateBits (e .«max_z») (c .«z_scale») (c .«z_offset»);
+      «min_z» = coordinateBits (e .«min_z») (c .«z_scale») (c .«z_offset»);
     }

@@ -1,7 +1,7 @@
 // The six scales and offsets of a header as one record of doubles, and the coordinates and bounds that they give.
 ghost use mathlib.Core.Path.{_≡_};
 ghost use lib.Ieee.{binary64, ofBits, toBits};
-ghost use Rattle.scaling.specs.Scaling.{doubleAt, within, scalingOf, goodScaling, coordinateOf, coordinatesOf, boundOf, boundsOf};
+ghost use Rattle.scaling.specs.Scaling.{doubleAt, scalingOf, goodScaling, coordinateOf, coordinatesOf, coordinateBits, boundsOf};
 
 // The double with these bits. Every NaN pattern gives a NaN: `f64::from_bits` is undefined there.
 pub fn double_of(bits: u64) -> f64
@@ -32,15 +32,16 @@ pub fn coordinate(stored: i32, scale: f64, offset: f64) -> f64
     (stored as f64) * scale + offset
 }
 
+// The bits of a bound: of the coordinate of an extreme.
 fn bound(stored: i32, scale: f64, offset: f64) -> u64
-    ensures { λ r. ⌜ r ≡ boundOf stored scale offset ⌝ }
+    ensures { λ r. ⌜ r ≡ coordinateBits stored scale offset ⌝ }
 {
     bits_of(coordinate(stored, scale, offset))
 }
 
-// The coordinate with scale, offset and result by their bits.
+// The coordinate, with scale, offset and result by their bits.
 pub fn coordinate_bits(stored: i32, scale: u64, offset: u64) -> u64
-    ensures { λ r. ⌜ r ≡ boundOf stored (ofBits binary64 scale) (ofBits binary64 offset) ⌝ }
+    ensures { λ r. ⌜ r ≡ coordinateBits stored (ofBits binary64 scale) (ofBits binary64 offset) ⌝ }
 {
     bound(stored, double_of(scale), double_of(offset))
 }
@@ -49,13 +50,6 @@ fn double_at(s: &[u8], at: usize) -> f64
     ensures { λ r. ⌜ r ≡ doubleAt (now (s .entry)) at ⌝ }
 {
     double_of(fields::numbers::number_at(s, at, 8))
-}
-
-// Whether lo <= x <= hi: not so for a NaN.
-fn is_within(lo: f64, hi: f64, x: f64) -> bool
-    ensures { λ r. ⌜ r ≡ within lo hi x ⌝ }
-{
-    (lo <= x) & (x <= hi)
 }
 
 // 2^-40
@@ -118,16 +112,16 @@ impl Scaling {
         }
     }
 
-    // Whether all six are in their ranges: number 10 is given where they are not.
+    // Whether all six are in their ranges: number 10 is given where they are not. A NaN is in none.
     pub fn is_good(self) -> bool
         ensures { λ r. ⌜ r ≡ goodScaling self ⌝ }
     {
-        is_within(LOWEST_SCALE, HIGHEST_SCALE, self.x_scale)
-            & is_within(LOWEST_SCALE, HIGHEST_SCALE, self.y_scale)
-            & is_within(LOWEST_SCALE, HIGHEST_SCALE, self.z_scale)
-            & is_within(LOWEST_OFFSET, HIGHEST_OFFSET, self.x_offset)
-            & is_within(LOWEST_OFFSET, HIGHEST_OFFSET, self.y_offset)
-            & is_within(LOWEST_OFFSET, HIGHEST_OFFSET, self.z_offset)
+        ((LOWEST_SCALE <= self.x_scale) & (self.x_scale <= HIGHEST_SCALE))
+            & ((LOWEST_SCALE <= self.y_scale) & (self.y_scale <= HIGHEST_SCALE))
+            & ((LOWEST_SCALE <= self.z_scale) & (self.z_scale <= HIGHEST_SCALE))
+            & ((LOWEST_OFFSET <= self.x_offset) & (self.x_offset <= HIGHEST_OFFSET))
+            & ((LOWEST_OFFSET <= self.y_offset) & (self.y_offset <= HIGHEST_OFFSET))
+            & ((LOWEST_OFFSET <= self.z_offset) & (self.z_offset <= HIGHEST_OFFSET))
     }
 
     // The coordinates of a point's three stored values.

@@ -1,5 +1,6 @@
 -- `points::put_colour` meets its contract: the three fields are written one behind another. Assumes nothing.
 use mathlib.Core.Path.{refl}
+use Prim.Native.Nat.{_+_}
 use native.Mathlib.Omega.{arith}
 use Rattle.fields.proofs.ByteLaws.{length-bytesOf}
 use Rattle.points.specs.Points.{colourFields}
@@ -59,10 +60,11 @@ returns-3 c =
     let p1 = p2 .before .before .before .before .before in
     let told = p1 .before .before .before .before .before in
     let a = told .before .before .before .args in
-    stored-there (a .place) _ (a .room .now) _ _ (told .place .given .1)
-    (then-more (a .room .now) _ _ _ 2 _ _ _ _ (p1 .put-number .ensures) refl (length-bytesOf 2 _) refl
-    (then-more _ _ _ _ 2 _ _ _ _ (p2 .put-number2 .ensures) refl (length-bytesOf 2 _) (omega arith)
-    (last-field _ _ _ _ _ (p3 .put-number3 .ensures) refl)))
+    let at = told .place .given .0 .0 in
+    stored-there (a .place) _ (a .room .now) _ at (told .place .given .1)
+    (then-more (a .room .now) _ _ at 2 (at + 2) _ _ _ (p1 .put-number .ensures) refl (length-bytesOf 2 _) refl
+    (then-more _ _ _ (at + 2) 2 (at + 4) _ _ _ (p2 .put-number2 .ensures) refl (length-bytesOf 2 _) (omega arith)
+    (last-field _ _ (at + 4) _ _ (p3 .put-number3 .ensures) refl)))
 
 pub put-colour-spec : {M : Type 1} → statement M
 put-colour-spec =

@@ -4,7 +4,7 @@ use mathlib.Core.Path.{_∙_, ap}
 use lib.Ieee.{binary64, toBits}
 use mir.Syntax.{w32}
 use mir.ValLaws.{toZ-ofZ}
-use Rattle.scaling.specs.Scaling.{boundOf}
+use Rattle.scaling.specs.Scaling.{coordinateBits}
 use Rattle.scaling.proofs.bound.Statement.{statement}
 use Rattle.scaling.proofs.bound.Tie as tie
 
@@ -15,7 +15,7 @@ bits-of-requires : tie.Need-bits-of-requires
 bits-of-requires c κs = search needs
 
 returns : tie.Need-returns
-unfolding boundOf
+unfolding coordinateBits
 returns c =
     let a = c .before .before in
     c .bits-of .ensures ∙ ap (toBits binary64) (rw (toZ-ofZ w32 (a .args .stored) (a .fits .stored)) at (c .before .coordinate .ensures))

@@ -1,0 +1,4 @@
+pub mod SignedLaws
+pub mod RoundLaws
+pub mod ExactLaws
+pub mod CoordinateTheorems

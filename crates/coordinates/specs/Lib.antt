@@ -1,0 +1,3 @@
+pub mod WholeNumbers
+pub mod Axes
+pub mod Statements
