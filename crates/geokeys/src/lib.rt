@@ -5,7 +5,7 @@ ghost use Prim.Native.Nat.{_+_, _<_, _^_};
 ghost use lib.Dec.{eqb};
 ghost use Rattle.fields.specs.Checks.{firstFailing};
 ghost use Rattle.fields.specs.declared.Verdict.the-variants.{Passes};
-ghost use Rattle.lasfile.specs.Header.{fileVerdict};
+ghost use Rattle.lasfile.specs.FileChecks.{fileVerdict};
 ghost use Rattle.geokeys.specs.GeoKeys.{isProjection, projectionPlace, payloadAt, directoryChecks, entryOf, locationOf, either, doubleIn, textIn, answerIf, fromEntry, lookup};
 ghost use Rattle.geokeys.specs.Places.{placeIn, entryIn, Low};
 use fields::Verdict;
@@ -151,7 +151,7 @@ fn from_directory(file: &[u8], directory: &[u8], key: u16) -> GeoKey
 pub fn find(file: &[u8], key: u16) -> GeoKey
     ensures { λ r. ⌜ r ≡ lookup (now (file .entry)) key ⌝ }
 {
-    let verdict = lasfile::checks::check_file(file);
+    let verdict = lasfile::check_file(file);
     if let Verdict::Fails(n) = verdict {
         return GeoKey::Refused(n);
     }

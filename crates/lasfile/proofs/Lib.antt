@@ -1,3 +1,1 @@
 pub mod Passed
-pub mod StepLaws
-pub mod Visits

@@ -12,7 +12,7 @@ use Rattle.fields.specs.declared.Verdict.the-variants.{Passes}
 use Rattle.fields.proofs.CheckLaws.{none-fails, all-clear}
 use Rattle.formats.specs.Formats.{formatSize}
 use Rattle.scaling.specs.Scaling.{scalingOf, goodScaling}
-use Rattle.lasfile.specs.Header.{signature, version, headerSize, pointOffset, format, recordLength, pointCount, recordsEnd, fileChecks, fileVerdict}
+use Rattle.lasfile.specs.FileChecks.{signature, version, headerSize, pointOffset, format, recordLength, pointCount, recordsEnd, fileChecks, fileVerdict}
 
 pub record Passed (s : Bytes) : Type 0 where
   pub whole : 227 ≤ length s

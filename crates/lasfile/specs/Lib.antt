@@ -1,3 +1,1 @@
-pub mod Header
-pub mod Steps
-pub mod OnePoint
+pub mod FileChecks

@@ -5,7 +5,7 @@ use denote.Ref.{now}
 use Rattle.fields.specs.Bytes.{Bytes}
 use Rattle.fields.specs.Checks.{firstFailing}
 use Rattle.fields.specs.declared.Verdict.the-variants.{Passes}
-use Rattle.lasfile.specs.Header.{fileVerdict}
+use Rattle.lasfile.specs.FileChecks.{fileVerdict}
 use Rattle.geokeys.specs.GeoKeys.{directoryChecks, entryOf, answerIf, fromEntry, fromDirectory, lookup}
 use Rattle.geokeys.proofs.SearchLaws.{answer-passes, answer-fails, placed, nowhere, low-place}
 use borrow.Author.Needs.{needs}

@@ -12,7 +12,7 @@ use Rattle.fields.specs.declared.Verdict.the-variants.{Passes}
 use Rattle.fields.proofs.ByteLaws.{num-part-lt, part-drop}
 use Rattle.records.specs.Records.{places, walkEnd, sizeOf, payloadLength}
 use Rattle.records.proofs.RecordLaws.{walkEnd-step, walk-grows, front-in-size}
-use Rattle.lasfile.specs.Header.{headerSize, recordCount, pointOffset, recordsEnd, fileVerdict}
+use Rattle.lasfile.specs.FileChecks.{headerSize, recordCount, pointOffset, recordsEnd, fileVerdict}
 use Rattle.lasfile.proofs.Passed.{passed}
 use Rattle.geokeys.specs.GeoKeys.{first, isProjection, projectionPlace}
 use Rattle.geokeys.specs.Places.{placeIn}

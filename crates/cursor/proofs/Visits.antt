@@ -1,0 +1,106 @@
+-- Stepping from (0, header size) visits exactly the records of the definition, in order, and then gives 18.
+-- Assumes nothing.
+use mathlib.Core.Path.{_≡_, sym, ap, _∙_, subst}
+use Prim.Native.Nat.{ℕ, zero, suc, _+_, _≤_}
+use native.Mathlib.Omega.{arith}
+use mathlib.Core.List.{List, _∷_, map}
+use mathlib.Core.Logic.{inl}
+use borrow.Author.Tests.{lt-ltb, le-ltb}
+use lib.ListN.{length, drop}
+use lib.Dec.{T, ltb}
+use Rattle.fields.specs.Bytes.{Bytes, part, num}
+use Rattle.fields.specs.Text.{cut}
+use Rattle.fields.specs.Checks.{Clear}
+use Rattle.fields.specs.declared.Verdict.the-variants.{Passes}
+use Rattle.fields.proofs.ByteLaws.{part-drop, part-part}
+use Rattle.fields.proofs.TextLaws.{cut-front, length-cut}
+use Rattle.fields.proofs.ByteLaws.{length-part-le}
+use Rattle.records.specs.Records.{recordAt, recordOf, sizeOf, payloadLength, places, walkEnd}
+use Rattle.records.proofs.RecordLaws.{walk-grows, walkEnd-step}
+use Rattle.lasfile.specs.FileChecks.{headerSize, pointOffset, recordCount, recordsEnd, fileVerdict}
+use Rattle.cursor.specs.Steps.{recordPlaces, nextCursor, stepOf, collect, visited}
+use Rattle.cursor.specs.declared.RecordPlaces.{RecordPlaces}
+use Rattle.cursor.specs.declared.VlrCursor.{VlrCursor}
+use Rattle.cursor.specs.declared.Step.{Step}
+use Rattle.cursor.specs.declared.Step.the-variants.{Record, Refused}
+use Rattle.lasfile.proofs.Passed.{Passed, passed}
+use Rattle.cursor.proofs.StepLaws.{test, refused-18, answered}
+
+abbrev cursor : ℕ → ℕ → VlrCursor
+cursor index position = record { index = index; position = position }
+
+module _ (s : Bytes) (passes : fileVerdict s ≡ Passes) where
+  -- where no record is left, a step gives 18
+  pub ends-in-18 : (position : ℕ) → stepOf s (recordCount s) position ≡ Refused 18
+  ends-in-18 position = refused-18 s (recordCount s) position passes (inl (le-ltb (recordCount s) (recordCount s) (omega arith)))
+
+  -- k records are left, and they lie before the points
+  pub record Left (k index position : ℕ) : Type 0 where
+    pub counted : index + k ≡ recordCount s
+    pub behind : headerSize s ≤ position
+    pub before : walkEnd 2 k position s ≤ pointOffset s
+
+  clear : (k index position : ℕ) → Left (suc k) index position → Clear (test s index position)
+  clear k index position l = (
+    subst T (sym (lt-ltb index (recordCount s) (omega (arith, l .counted)))) tt,
+    (l .behind, omega (arith, l .before, walkEnd-step 2 k position s, walk-grows 2 k (position + sizeOf 2 (drop position s)) s)),
+  )
+
+  step-is : (k index position : ℕ) → Left (suc k) index position
+      → stepOf s index position ≡ Record (recordPlaces s position) (cursor (index + 1) (position + sizeOf 2 (drop position s)))
+  unfolding nextCursor
+  step-is k index position l = answered s index position passes (clear k index position l)
+
+  left-next : (k index position : ℕ) → Left (suc k) index position → Left k (index + 1) (position + sizeOf 2 (drop position s))
+  left-next k index position l =
+      record {
+        counted = omega (arith, l .counted);
+        behind = omega (arith, l .behind);
+        before = rw (walkEnd-step 2 k position s) at (l .before);
+      }
+
+  visits-left : (k m index position : ℕ) → Left k index position → visited (k + suc m) s (cursor index position) ≡ map (recordPlaces s) (places 2 k position s)
+  unfolding visited places collect
+  visits-left zero m index position l =
+      let e : 0 + suc m ≡ suc m = omega arith in
+      let i : index ≡ recordCount s = omega (arith, l .counted) in
+      rw (e, i) (ap (λ (t : Step). collect t (visited m s)) (ends-in-18 position))
+  visits-left (suc k) m index position l =
+      let e : suc k + suc m ≡ suc (k + suc m) = omega arith in
+      rw e
+      (ap (λ (t : Step). collect t (visited (k + suc m) s)) (step-is k index position l)
+      ∙ ap (λ (r : List RecordPlaces). recordPlaces s position ∷ r) (visits-left k m (index + 1) (position + sizeOf 2 (drop position s)) (left-next k index position l)))
+
+  -- the theorem: with at least one step more than there are records
+  pub visits : (m : ℕ) → visited (recordCount s + suc m) s (cursor 0 (headerSize s)) ≡ map (recordPlaces s) (places 2 (recordCount s) (headerSize s) s)
+  unfolding recordsEnd
+  visits m =
+      let p : Passed s = passed s passes in
+      visits-left (recordCount s) m 0 (headerSize s) (record { counted = omega arith; behind = omega arith; before = p .walked })
+
+-- ---- what a record's places mean: its parts are the record's own
+
+pub record Means (s : Bytes) (at : ℕ) (r : RecordPlaces) : Type 0 where
+  pub user : part (r .«user_place») (r .«user_length») s ≡ recordAt 2 s at .user
+  pub id : r .«record_id» ≡ recordAt 2 s at .id
+  pub description : part (r .«description_place») (r .«description_length») s ≡ recordAt 2 s at .description
+  pub payload : part (r .«payload_place») (r .«payload_length») s ≡ recordAt 2 s at .payload
+
+-- a text's cut, at its place in the file
+text-at : (s : Bytes) (at shift w : ℕ) → part (at + shift) (length (cut (part (at + shift) w s))) s ≡ cut (part shift w (drop at s))
+text-at s at shift w =
+    let t : Bytes = part (at + shift) w s in
+    let e : at + shift + 0 ≡ at + shift = omega arith in
+    let fits : 0 + length (cut t) ≤ w = omega (arith, length-cut t, length-part-le (at + shift) w s) in
+    let inner : part 0 (length (cut t)) t ≡ part (at + shift) (length (cut t)) s = part-part (at + shift) w 0 (length (cut t)) s fits ∙ rw e in
+    sym inner ∙ cut-front t ∙ ap cut (sym (part-drop at shift w s))
+
+pub places-mean : (s : Bytes) (at : ℕ) → Means s at (recordPlaces s at)
+unfolding recordPlaces recordOf
+places-mean s at =
+    record {
+      user = text-at s at 2 16;
+      id = ap num (sym (part-drop at 18 2 s));
+      description = text-at s at 22 32;
+      payload = sym (part-drop at 54 (payloadLength 2 (drop at s)) s);
+    }

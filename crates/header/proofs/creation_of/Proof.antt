@@ -1,0 +1,39 @@
+-- `header::creation_of` meets its contract. Assumes nothing.
+use Rattle.header.specs.Header.{creationOf}
+use borrow.Author.Needs.{needs}
+use Rattle.header.proofs.creation_of.Statement.{statement}
+use Rattle.header.proofs.creation_of.Tie as tie
+
+part-at-requires : tie.Need-part-at-requires
+part-at-requires c κs = search needs
+
+cut-length-requires : tie.Need-cut-length-requires
+cut-length-requires c κs = search needs
+
+part-at-requires-2 : tie.Need-part-at-requires-2
+part-at-requires-2 c κs = search needs
+
+cut-length-requires-2 : tie.Need-cut-length-requires-2
+cut-length-requires-2 c κs = search needs
+
+number-at-requires : tie.Need-number-at-requires
+number-at-requires c κs = search needs
+
+number-at-requires-2 : tie.Need-number-at-requires-2
+number-at-requires-2 c κs = search needs
+
+returns : tie.Need-returns
+unfolding creationOf
+returns c = cc
+
+pub creation-of-spec : {M : Type 1} → statement M
+creation-of-spec =
+    tie.close
+    (tie.spec
+    part-at-requires
+    cut-length-requires
+    part-at-requires-2
+    cut-length-requires-2
+    number-at-requires
+    number-at-requires-2
+    returns)

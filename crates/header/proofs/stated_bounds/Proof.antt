@@ -1,0 +1,39 @@
+-- `header::stated_bounds` meets its contract. Assumes nothing.
+use Rattle.header.specs.Header.{statedBounds}
+use borrow.Author.Needs.{needs}
+use Rattle.header.proofs.stated_bounds.Statement.{statement}
+use Rattle.header.proofs.stated_bounds.Tie as tie
+
+number-at-requires : tie.Need-number-at-requires
+number-at-requires c κs = search needs
+
+number-at-requires-2 : tie.Need-number-at-requires-2
+number-at-requires-2 c κs = search needs
+
+number-at-requires-3 : tie.Need-number-at-requires-3
+number-at-requires-3 c κs = search needs
+
+number-at-requires-4 : tie.Need-number-at-requires-4
+number-at-requires-4 c κs = search needs
+
+number-at-requires-5 : tie.Need-number-at-requires-5
+number-at-requires-5 c κs = search needs
+
+number-at-requires-6 : tie.Need-number-at-requires-6
+number-at-requires-6 c κs = search needs
+
+returns : tie.Need-returns
+unfolding statedBounds
+returns c = cc
+
+pub stated-bounds-spec : {M : Type 1} → statement M
+stated-bounds-spec =
+    tie.close
+    (tie.spec
+    number-at-requires
+    number-at-requires-2
+    number-at-requires-3
+    number-at-requires-4
+    number-at-requires-5
+    number-at-requires-6
+    returns)

@@ -1,0 +1,142 @@
+// The public header block.
+ghost use mathlib.Core.Path.{_≡_};
+ghost use Rattle.header.specs.Header.{identityOf, creationOf, layoutOf, byReturnOf, statedBounds, headerRead};
+use fields::Verdict;
+use fields::numbers::number_at;
+use scaling::Bounds;
+use scaling::Scaling;
+
+// Bytes 4 to 25. The GUID stands in four numbers, the last of 8 bytes.
+pub struct Identity {
+    pub file_source_id: u64,
+    pub global_encoding: u64,
+    pub guid_1: u64,
+    pub guid_2: u64,
+    pub guid_3: u64,
+    pub guid_4: u64,
+    pub version_major: u64,
+    pub version_minor: u64,
+}
+
+// What made the file and when. The texts stand at 26 and 58; these are the lengths of their cuts.
+pub struct Creation {
+    pub system_length: u64,
+    pub software_length: u64,
+    pub day: u64,
+    pub year: u64,
+}
+
+// Where things are and how many there are.
+pub struct Layout {
+    pub header_size: u64,
+    pub point_offset: u64,
+    pub vlr_count: u64,
+    pub point_format: u64,
+    pub record_length: u64,
+    pub point_count: u64,
+}
+
+// The stated number of points of each return number.
+pub struct ByReturn {
+    pub first: u64,
+    pub second: u64,
+    pub third: u64,
+    pub fourth: u64,
+    pub fifth: u64,
+}
+
+// The bounds are the stated ones, as their 64 bits: they may be NaNs.
+pub struct Header {
+    pub identity: Identity,
+    pub creation: Creation,
+    pub layout: Layout,
+    pub by_return: ByReturn,
+    pub scaling: Scaling,
+    pub bounds: Bounds,
+}
+
+pub enum HeaderRead {
+    Fields(Header),
+    Refused(u64),
+}
+
+fn identity_of(file: &[u8]) -> Identity
+    ensures { λ r. ⌜ r ≡ identityOf (now (file .entry)) ⌝ }
+{
+    Identity {
+        file_source_id: number_at(file, 4, 2),
+        global_encoding: number_at(file, 6, 2),
+        guid_1: number_at(file, 8, 4),
+        guid_2: number_at(file, 12, 2),
+        guid_3: number_at(file, 14, 2),
+        guid_4: number_at(file, 16, 8),
+        version_major: number_at(file, 24, 1),
+        version_minor: number_at(file, 25, 1),
+    }
+}
+
+fn creation_of(file: &[u8]) -> Creation
+    ensures { λ r. ⌜ r ≡ creationOf (now (file .entry)) ⌝ }
+{
+    Creation {
+        system_length: texts::cut_length(runs::part_at(file, 26, 32)) as u64,
+        software_length: texts::cut_length(runs::part_at(file, 58, 32)) as u64,
+        day: number_at(file, 90, 2),
+        year: number_at(file, 92, 2),
+    }
+}
+
+fn layout_of(file: &[u8]) -> Layout
+    ensures { λ r. ⌜ r ≡ layoutOf (now (file .entry)) ⌝ }
+{
+    Layout {
+        header_size: number_at(file, 94, 2),
+        point_offset: number_at(file, 96, 4),
+        vlr_count: number_at(file, 100, 4),
+        point_format: number_at(file, 104, 1),
+        record_length: number_at(file, 105, 2),
+        point_count: number_at(file, 107, 4),
+    }
+}
+
+fn by_return_of(file: &[u8]) -> ByReturn
+    ensures { λ r. ⌜ r ≡ byReturnOf (now (file .entry)) ⌝ }
+{
+    ByReturn {
+        first: number_at(file, 111, 4),
+        second: number_at(file, 115, 4),
+        third: number_at(file, 119, 4),
+        fourth: number_at(file, 123, 4),
+        fifth: number_at(file, 127, 4),
+    }
+}
+
+fn stated_bounds(file: &[u8]) -> Bounds
+    ensures { λ r. ⌜ r ≡ statedBounds (now (file .entry)) ⌝ }
+{
+    Bounds {
+        max_x: number_at(file, 179, 8),
+        min_x: number_at(file, 187, 8),
+        max_y: number_at(file, 195, 8),
+        min_y: number_at(file, 203, 8),
+        max_z: number_at(file, 211, 8),
+        min_z: number_at(file, 219, 8),
+    }
+}
+
+// Every field of a file's header, or the number of the first file check that fails.
+pub fn read_header(file: &[u8]) -> HeaderRead
+    ensures { λ r. ⌜ r ≡ headerRead (now (file .entry)) ⌝ }
+{
+    match lasfile::check_file(file) {
+        Verdict::Fails(n) => HeaderRead::Refused(n),
+        Verdict::Passes => HeaderRead::Fields(Header {
+            identity: identity_of(file),
+            creation: creation_of(file),
+            layout: layout_of(file),
+            by_return: by_return_of(file),
+            scaling: Scaling::read(file),
+            bounds: stated_bounds(file),
+        }),
+    }
+}

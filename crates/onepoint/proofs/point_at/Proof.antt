@@ -1,0 +1,171 @@
+-- `onepoint::point_at` meets its contract. Assumes nothing.
+use mathlib.Core.Path.{_≡_, sym, _∙_, subst}
+use Prim.Native.Nat.{ℕ, suc, _+_, _*_, _≤_, _<_}
+use native.Mathlib.Nat.{mul-le-mul-right}
+use native.Mathlib.Omega.{arith}
+use borrow.Author.Tests.{lt-ltb, le-ltb}
+use denote.Ref.{now}
+use lib.ListN.{length}
+use lib.Dec.{T, ltb}
+use Rattle.fields.specs.Bytes.{Bytes, part}
+use Rattle.fields.specs.Checks.{firstFailing}
+use Rattle.fields.specs.declared.Verdict.the-variants.{Passes, Fails}
+use Rattle.fields.proofs.ByteLaws.{length-part}
+use Rattle.fields.proofs.CheckLaws.{first-fails, all-clear, then-passes, then-fails}
+use Rattle.points.specs.declared.Decoded.the-variants.{Fields}
+use Rattle.points.specs.Points.{pointOf, decoded}
+use Rattle.points.proofs.AnswerLaws.{decodes}
+use Rattle.lasfile.specs.FileChecks.{pointOffset, pointCount, recordLength, format, fileVerdict}
+use Rattle.onepoint.specs.OnePoint.{pointChecks, pointPlace, pointIf, pointAtOf}
+use Rattle.onepoint.specs.declared.PointAt.the-variants.{At, Refused}
+use Rattle.lasfile.proofs.Passed.{passed, product-small}
+use borrow.Author.Needs.{needs}
+use Rattle.onepoint.proofs.point_at.Statement.{statement}
+use Rattle.onepoint.proofs.point_at.Tie as tie
+
+-- what is answered, case by case
+module _ (s : Bytes) (index : ℕ) where
+  refused-by-file : (n : ℕ) → fileVerdict s ≡ Fails n → pointAtOf s index ≡ Refused n
+  unfolding pointAtOf pointIf
+  refused-by-file n e = rw (then-fails (fileVerdict s) (firstFailing (pointChecks s index)) n e)
+
+  module _ (passes : fileVerdict s ≡ Passes) where
+    refused-11 : pointCount s ≤ index → pointAtOf s index ≡ Refused 11
+    unfolding pointAtOf pointIf
+    refused-11 h =
+        rw (then-passes (fileVerdict s) (firstFailing (pointChecks s index)) passes, first-fails 11 _ _ (le-ltb index (pointCount s) h))
+
+    module _ (below : index < pointCount s) where
+      answered : pointAtOf s index ≡ At (pointPlace s index) (pointOf (format s) (part (pointPlace s index) (recordLength s) s))
+      unfolding pointAtOf pointIf
+      answered =
+          rw (
+            then-passes (fileVerdict s) (firstFailing (pointChecks s index)) passes,
+            all-clear (pointChecks s index) (subst T (sym (lt-ltb index (pointCount s) below)) tt, tt),
+          )
+
+      -- the record lies in the file
+      in-file : pointPlace s index + recordLength s ≤ length s
+      unfolding pointPlace
+      in-file =
+          let more : suc index * recordLength s ≤ pointCount s * recordLength s = mul-le-mul-right (recordLength s) below in
+          let e : suc index * recordLength s ≡ recordLength s + index * recordLength s = omega arith in
+          omega (arith, more, e, passed s passes .pointed)
+
+      -- and is decoded
+      decoded-here : decoded (format s) (recordLength s) (part (pointPlace s index) (recordLength s) s)
+          ≡ Fields (pointOf (format s) (part (pointPlace s index) (recordLength s) s))
+      decoded-here =
+          decodes (format s) (recordLength s) _ (length-part (pointPlace s index) (recordLength s) s in-file) (passed s passes .recordLow) (passed s passes .formatted)
+
+passes-at : (c : tie.After-enum-told) → fileVerdict (now (c .before .before .before .before .args .file)) ≡ Passes
+passes-at c = sym (c .before .before .check-file .ensures) ∙ c .enum-told .given .1
+
+below-at : (c : tie.Else1) → c .before .before .before .before .before .before .args .index < pointCount (now (c .before .before .before .before .before .before .args .file))
+unfolding pointCount
+below-at c = omega arith
+
+-- what was decoded, over the file
+result-is : (c : tie.After-decode)
+    → c .decode .result
+    ≡ Fields (pointOf (format (now (c .before .before .before .before .before .before .before .before .before .before .before .args .file))) (part (pointPlace (now (c .before .before .before .before .before .before .before .before .before .before .before .args .file)) (c .before .before .before .before .before .before .before .before .before .before .before .args .index)) (recordLength (now (c .before .before .before .before .before .before .before .before .before .before .before .args .file))) (now (c .before .before .before .before .before .before .before .before .before .before .before .args .file))))
+unfolding pointPlace pointOffset recordLength format
+result-is c =
+    let s = now (c .before .before .before .before .before .before .before .before .before .before .before .args .file) in
+    c .decode .ensures
+    ∙ rw (c .before .part-at .ensures, c .before .before .number-at4 .ensures .0, c .before .before .before .number-at3 .ensures .0, c .before .before .before .before .number-at2 .ensures .0)
+    (decoded-here s (c .before .before .before .before .before .before .before .before .before .before .before .args .index) (passes-at (c .before .before .before .before .before .before .before)) (below-at (c .before .before .before .before .before)))
+
+check-file-requires : tie.Need-check-file-requires
+check-file-requires c κs = search needs
+
+enum-known-verdict : tie.Need-enum-known-verdict
+enum-known-verdict c = search needs
+
+returns : tie.Need-returns
+returns c = sym (refused-by-file _ _ _ (sym (c .before .before .before .check-file .ensures) ∙ c .before .verdict .given .1))
+
+enum-told : tie.Need-enum-told
+enum-told c = search needs
+
+number-at-requires : tie.Need-number-at-requires
+number-at-requires c κs = search needs
+
+returns-2 : tie.Need-returns-2
+unfolding pointCount
+returns-2 c = sym (refused-11 _ _ (passes-at (c .before .before)) (omega arith))
+
+number-at-requires-2 : tie.Need-number-at-requires-2
+number-at-requires-2 c κs = search needs
+
+number-at-requires-3 : tie.Need-number-at-requires-3
+number-at-requires-3 c κs = search needs
+
+mul-place : tie.Need-mul-place
+mul-place c = omega (arith, product-small (c .before .before .before .before .before .before .before .before .args .index) (c .before .number-at2 .result) (omega arith) (omega arith))
+
+add-place : tie.Need-add-place
+add-place c = omega (arith, product-small (c .before .before .before .before .before .before .before .before .args .index) (c .before .number-at2 .result) (omega arith) (omega arith))
+
+number-at-requires-4 : tie.Need-number-at-requires-4
+number-at-requires-4 c κs = search needs
+
+cast-format : tie.Need-cast-format
+cast-format c = search needs
+
+cast-decode : tie.Need-cast-decode
+cast-decode c = search needs
+
+part-at-requires : tie.Need-part-at-requires
+part-at-requires c κs = search needs
+
+decode-requires : tie.Need-decode-requires
+decode-requires c κs = search needs
+
+enum-known-decoded : tie.Need-enum-known-decoded
+enum-known-decoded c = search needs
+
+enum-known-decoded-2 : tie.Need-enum-known-decoded-2
+enum-known-decoded-2 c = search needs
+
+returns-3 : tie.Need-returns-3
+unfolding pointPlace pointOffset recordLength
+returns-3 c =
+    let s = now (c .before .before .before .before .before .before .before .before .before .before .before .before .before .before .args .file) in
+    let answer = answered s (c .before .before .before .before .before .before .before .before .before .before .before .before .before .before .args .index) (passes-at (c .before .before .before .before .before .before .before .before .before .before)) (below-at (c .before .before .before .before .before .before .before .before)) in
+    let result = result-is (c .before .before .before) in
+    let told = c .before .decoded .given .1 in
+    let place = c .before .before .before .before .before .before .number-at3 .ensures .0 in
+    let length = c .before .before .before .before .before .before .before .number-at2 .ensures .0 in
+    cc
+
+returns-4 : tie.Need-returns-4
+returns-4 c =
+    let result = result-is (c .before .before .before) in
+    let told = c .before .decoded2 .given .1 in
+    let z : _≡_ {A = ℕ} 0 1 = cc in
+    absurd (omega arith)
+
+pub point-at-spec : {M : Type 1} → statement M
+point-at-spec =
+    tie.close
+    (tie.spec
+    check-file-requires
+    enum-known-verdict
+    returns
+    enum-told
+    number-at-requires
+    returns-2
+    number-at-requires-2
+    number-at-requires-3
+    mul-place
+    add-place
+    number-at-requires-4
+    cast-format
+    cast-decode
+    part-at-requires
+    decode-requires
+    enum-known-decoded
+    enum-known-decoded-2
+    returns-3
+    returns-4)
