@@ -18,7 +18,8 @@ use lib.Ieee.Positive.{positive, between}
 use Rattle.fields.specs.Bytes.{Bytes, AllBytes, part, num, bytesOf}
 use Rattle.fields.proofs.ByteLaws.{num-part-lt}
 use Rattle.scaling.specs.declared.Scaling.{Scaling}
-use Rattle.scaling.specs.Scaling.{doubleAt, scalingOf, within, goodScale, goodOffset, goodScaling, coordinateOf}
+use Rattle.scaling.proofs.ScalingLaws.{double-in}
+use Rattle.scaling.specs.Scaling.{doubleAt, scalingIn, scalingOf, within, goodScale, goodOffset, goodScaling, coordinateOf}
 use Rattle.coordinates.specs.WholeNumbers.{signed, Times}
 use Rattle.coordinates.specs.Axes.{Axis, X, Y, Z, scaleOf, offsetOf, scalePlace, offsetPlace}
 use Rattle.coordinates.specs.Statements.{Stored, FiniteInOrder, ExactCase, Exact, Carried}
@@ -129,16 +130,16 @@ unfolding doubleAt
 carried-at s at h p = toBits-ofBits binary64 (num (part at 8 s)) (num-part-lt at 8 s h) (not-nan (doubleAt s at) p)
 
 scale-is : (s : Bytes) (axis : Axis) → scaleOf axis (scalingOf s) ≡ doubleAt s (scalePlace axis)
-unfolding scaleOf scalingOf scalePlace
-scale-is s X = refl
-scale-is s Y = refl
-scale-is s Z = refl
+unfolding scaleOf scalingOf scalingIn scalePlace
+scale-is s X = double-in s 131 48 0 (lit≤ tt)
+scale-is s Y = double-in s 131 48 8 (lit≤ tt)
+scale-is s Z = double-in s 131 48 16 (lit≤ tt)
 
 offset-is : (s : Bytes) (axis : Axis) → offsetOf axis (scalingOf s) ≡ doubleAt s (offsetPlace axis)
-unfolding offsetOf scalingOf offsetPlace
-offset-is s X = refl
-offset-is s Y = refl
-offset-is s Z = refl
+unfolding offsetOf scalingOf scalingIn offsetPlace
+offset-is s X = double-in s 131 48 24 (lit≤ tt)
+offset-is s Y = double-in s 131 48 32 (lit≤ tt)
+offset-is s Z = double-in s 131 48 40 (lit≤ tt)
 
 pub carried : (s : Bytes) → AllBytes s → T (goodScaling (scalingOf s)) → (axis : Axis) → Carried s axis
 carried s h p axis =

@@ -1,1 +1,2 @@
 pub mod NanLaws
+pub mod ScalingLaws

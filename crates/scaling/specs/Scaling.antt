@@ -14,17 +14,21 @@ use Rattle.scaling.specs.declared.Bounds.{Bounds}
 unfoldable pub doubleAt : Bytes → ℕ → Float
 doubleAt s at = ofBits binary64 (num (part at 8 s))
 
--- the record of scales and offsets in a header, which starts the file
-unfoldable pub scalingOf : Bytes → Scaling
-scalingOf s =
+-- the three scales and three offsets in 48 bytes
+unfoldable pub scalingIn : Bytes → Scaling
+scalingIn b =
     record {
-      «x_scale» = doubleAt s 131;
-      «y_scale» = doubleAt s 139;
-      «z_scale» = doubleAt s 147;
-      «x_offset» = doubleAt s 155;
-      «y_offset» = doubleAt s 163;
-      «z_offset» = doubleAt s 171;
+      «x_scale» = doubleAt b 0;
+      «y_scale» = doubleAt b 8;
+      «z_scale» = doubleAt b 16;
+      «x_offset» = doubleAt b 24;
+      «y_offset» = doubleAt b 32;
+      «z_offset» = doubleAt b 40;
     }
+
+-- those of a header, which starts the file
+unfoldable pub scalingOf : Bytes → Scaling
+scalingOf s = scalingIn (part 131 48 s)
 
 -- lo ≤ x ≤ hi, which fails for a NaN
 unfoldable pub within : Float → Float → Float → Bool

@@ -10,6 +10,7 @@ use Rattle.fields.specs.declared.Verdict.the-variants.{Passes, Fails}
 use Rattle.fields.specs.Lists.{some}
 use Rattle.fields.specs.Bytes.{Bytes, part, num, same}
 use Rattle.fields.specs.Text.{cut}
+use Rattle.formats.specs.Formats.{classOf}
 use Rattle.fields.specs.Checks.{Check, _below_, _differs-from_, not-so, firstFailing, then}
 use Rattle.sheet.specs.declared.Kept.{Kept}
 use Rattle.sheet.specs.declared.Kept.the-variants.{Yes, No, Refused}
@@ -92,6 +93,10 @@ namesRecord l user id = eqb (kind l) 2 && (same (userID l) user && eqb (recordID
 
 unfoldable pub keepsClass : Bytes → ℕ → Bool
 keepsClass sheet c = some (λ l. containsClass l c) (lines sheet)
+
+-- a point by its format and bytes: its class is kept
+unfoldable pub keepsPoint : Bytes → ℕ → Bytes → Bool
+keepsPoint sheet f p = keepsClass sheet (classOf f p)
 
 unfoldable pub keepsRecord : Bytes → Bytes → ℕ → Bool
 keepsRecord sheet user id = some (λ l. namesRecord l user id) (lines sheet)

@@ -1,6 +1,8 @@
 -- `scaling::Scaling::read` meets its contract. Assumes nothing.
 use borrow.Author.Needs.{needs}
-use Rattle.scaling.specs.Scaling.{scalingOf}
+use lib.Dec.{lit≤}
+use Rattle.scaling.specs.Scaling.{scalingIn, scalingOf}
+use Rattle.scaling.proofs.ScalingLaws.{double-in}
 use Rattle.scaling.proofs.Scaling.read.Statement.{statement}
 use Rattle.scaling.proofs.Scaling.read.Tie as tie
 
@@ -23,8 +25,16 @@ double-at-requires-6 : tie.Need-double-at-requires-6
 double-at-requires-6 c κs = search needs
 
 returns : tie.Need-returns
-unfolding scalingOf
-returns c = cc
+unfolding scalingOf scalingIn
+returns c =
+    let s = c .before .before .before .before .before .before .before .args .header .now in
+    let x = double-in s 131 48 0 (lit≤ tt) in
+    let y = double-in s 131 48 8 (lit≤ tt) in
+    let z = double-in s 131 48 16 (lit≤ tt) in
+    let u = double-in s 131 48 24 (lit≤ tt) in
+    let v = double-in s 131 48 32 (lit≤ tt) in
+    let w = double-in s 131 48 40 (lit≤ tt) in
+    cc
 
 pub read-spec : {M : Type 1} → statement M
 read-spec =

@@ -1,0 +1,72 @@
+-- Counts by return number, and bounds, over points.
+-- Assumes nothing.
+use Prim.Native.Nat.{ℕ, zero, suc, _*_}
+use mathlib.Core.Bool.{cond}
+use mathlib.Core.List.{List, [], _∷_, map}
+use lib.ListN.{length, getD}
+use lib.Dec.{eqb}
+use lib.IntN.{ℤ}
+use lib.Signed.{ltZ}
+use mir.Syntax.{w32}
+use mir.Val.{toZ}
+use Rattle.fields.specs.Lists.{kept}
+use Rattle.fields.specs.Bytes.{Bytes, part, num, bytesOf, zeros, join}
+use Rattle.points.specs.Points.{bits}
+use Rattle.scaling.specs.Scaling.{boundsOf}
+use Rattle.scaling.specs.declared.Scaling.{Scaling}
+use Rattle.scaling.specs.declared.Extremes.{Extremes}
+use Rattle.scaling.specs.declared.Bounds.{Bounds}
+
+-- numbers of w bytes each, back to back
+unfoldable pub numbersBytes : ℕ → List ℕ → Bytes
+numbersBytes w ns = join (map (bytesOf w) ns)
+
+-- ---- counts
+
+-- from, from + 1, .. n of them
+unfoldable pub upFrom : ℕ → ℕ → List ℕ
+upFrom from zero = []
+upFrom from (suc n) = from ∷ upFrom (suc from) n
+
+-- a point's return number
+unfoldable pub returnOf : Bytes → ℕ
+returnOf p = bits 0 3 (getD p 14 0)
+
+-- bin r of the n bins counts return number r; other numbers are in no bin
+unfoldable pub bins : ℕ → List Bytes → List ℕ
+bins n ps = map (λ r. length (kept (λ p. eqb (returnOf p) r) ps)) (upFrom 1 n)
+
+-- ---- bounds
+
+-- a point's stored X (axis 0), Y (1) or Z (2), in two's complement
+unfoldable pub stored : ℕ → Bytes → ℤ
+stored axis p = toZ w32 (num (part (4 * axis) 4 p))
+
+unfoldable pub largest : ℤ → List ℤ → ℤ
+largest z [] = z
+largest z (y ∷ ys) = largest (cond (ltZ z y) y z) ys
+
+unfoldable pub smallest : ℤ → List ℤ → ℤ
+smallest z [] = z
+smallest z (y ∷ ys) = smallest (cond (ltZ y z) y z) ys
+
+-- the largest and smallest stored values of a first point and more
+unfoldable pub extremesOf : Bytes → List Bytes → Extremes
+extremesOf p ps =
+    record {
+      «max_x» = largest (stored 0 p) (map (stored 0) ps);
+      «min_x» = smallest (stored 0 p) (map (stored 0) ps);
+      «max_y» = largest (stored 1 p) (map (stored 1) ps);
+      «min_y» = smallest (stored 1 p) (map (stored 1) ps);
+      «max_z» = largest (stored 2 p) (map (stored 2) ps);
+      «min_z» = smallest (stored 2 p) (map (stored 2) ps);
+    }
+
+-- max X, min X, max Y, min Y, max Z, min Z
+unfoldable pub boundNumbers : Bounds → List ℕ
+boundNumbers b = b .«max_x» ∷ b .«min_x» ∷ b .«max_y» ∷ b .«min_y» ∷ b .«max_z» ∷ b .«min_z» ∷ []
+
+-- each bound is the coordinate of the largest or smallest stored value; with no points all six are +0.0
+unfoldable pub bounds : Scaling → List Bytes → List ℕ
+bounds c [] = 0 ∷ 0 ∷ 0 ∷ 0 ∷ 0 ∷ 0 ∷ []
+bounds c (p ∷ ps) = boundNumbers (boundsOf c (extremesOf p ps))

@@ -1,0 +1,5 @@
+pub mod Bounds
+pub mod Public
+pub mod Head
+pub mod Render
+pub mod Release
