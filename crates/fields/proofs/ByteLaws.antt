@@ -7,7 +7,7 @@ use native.Mathlib.Omega.{arith}
 use mathlib.Core.Bool.{Bool, true, false, _&&_}
 use mathlib.Core.List.{List, [], _∷_, _++_, append-assoc}
 use lib.ListN.{length, take, drop, getD, length-append, length-take, length-drop, drop-of-length-le}
-use lib.Seq.{take-at, drop-append-add, getD-drop, drop-drop, take-take, take-nil}
+use lib.Seq.{getD-take, take-at, drop-at, drop-append-add, getD-drop, drop-drop, take-take, take-nil}
 use lib.Dec.{T, eqb, eqb→eq, eqb-refl}
 use Rattle.fields.specs.Lists.{All, total}
 use Rattle.fields.specs.Bytes.{Bytes, AllBytes, part, num, bytesOf, same, join, pieces, start, Fit}
@@ -41,6 +41,12 @@ num-lt (suc w) (b ∷ bs) h = omega (arith, h 0, num-lt w bs (λ i. h (suc i)))
 
 pub drop-bytes : (at : ℕ) (s : Bytes) → AllBytes s → AllBytes (drop at s)
 drop-bytes at s h i = rw getD-drop (h (at + i))
+
+take-bytes : (w : ℕ) (s : Bytes) → AllBytes s → AllBytes (take w s)
+take-bytes zero s h i = omega arith
+take-bytes (suc w) [] h i = omega arith
+take-bytes (suc w) (b ∷ bs) h zero = h 0
+take-bytes (suc w) (b ∷ bs) h (suc i) = take-bytes w bs (λ k. h (suc k)) i
 
 -- a number of w bytes read in a file is below 256 ^ w
 pub num-part-lt : (at w : ℕ) (s : Bytes) → AllBytes s → num (part at w s) < 256 ^ w
@@ -112,6 +118,10 @@ part-part at w i k s h =
     let e : part i k (part at w s) ≡ part i k (drop at s) = unfold part in part-take i k w (drop at s) h in
     e ∙ part-drop at i k s
 
+pub getD-part : (at w i : ℕ) (s : Bytes) → i < w → getD (part at w s) i 0 ≡ getD s (at + i) 0
+unfolding part
+getD-part at w i s h = rw (getD-take, getD-drop)
+
 -- ---- equal runs
 
 and-parts : (a b : Bool) → T (a && b) → T a × T b
@@ -169,6 +179,29 @@ unfolding pieces
 length-pieces zero w s = refl
 length-pieces (suc n) w s = ap suc (length-pieces n w (drop w s))
 
+pub pieces-width : (n w : ℕ) (s : Bytes) → n * w ≤ length s → All (λ p. length p ≡ w) (pieces n w s)
+unfolding pieces
+pieces-width zero w s h = tt
+pieces-width (suc n) w s h = (simp length-take (omega arith), pieces-width n w (drop w s) (simp length-drop (omega arith)))
+
+-- pieces of bytes are bytes
+pub pieces-bytes : (n w : ℕ) (s : Bytes) → AllBytes s → All AllBytes (pieces n w s)
+unfolding pieces
+pieces-bytes zero w s h = tt
+pieces-bytes (suc n) w s h = (take-bytes w s h, pieces-bytes n w (drop w s) (drop-bytes w s h))
+
+-- pieces are read back, whatever follows
+pub pieces-back : (w : ℕ) (ps : List Bytes) (rest : Bytes) → All (λ p. length p ≡ w) ps → pieces (length ps) w (join ps ++ rest) ≡ ps
+unfolding pieces join
+pieces-back w [] rest h = refl
+pieces-back w (p ∷ ps) rest h =
+    rw (append-assoc, take-at p (join ps ++ rest) w (h .0), drop-at p (join ps ++ rest) w (h .0), pieces-back w ps rest (h .1))
+
+pub length-join-pieces : (w : ℕ) (ps : List Bytes) → All (λ p. length p ≡ w) ps → length (join ps) ≡ length ps * w
+unfolding join
+length-join-pieces w [] h = omega arith
+length-join-pieces w (p ∷ ps) h = omega (arith, length-append p (join ps), h .0, length-join-pieces w ps (h .1))
+
 -- piece i, by its place
 pub pieces-at : (n w i : ℕ) (s : Bytes) → i < n → getD (pieces n w s) i [] ≡ part (i * w) w s
 unfolding pieces
@@ -177,3 +210,10 @@ pieces-at (suc n) w zero s h = let e : 0 * w ≡ 0 = omega arith in rw e (unfold
 pieces-at (suc n) w (suc i) s h =
     let e : suc i * w ≡ w + i * w = omega arith in
     rw e (pieces-at n w i (drop w s) (omega arith) ∙ part-drop w (i * w) w s)
+
+-- one piece more, as a loop goes on
+pub pieces-step : (n w at : ℕ) (s : Bytes) → 0 < n → pieces n w (drop at s) ≡ part at w s ∷ pieces (n - 1) w (drop (at + w) s)
+unfolding pieces part
+pieces-step n w at s h =
+    let e : n ≡ suc (n - 1) = omega arith in
+    ap (λ (k : ℕ). pieces k w (drop at s)) e ∙ rw drop-drop

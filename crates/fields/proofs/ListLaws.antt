@@ -31,6 +31,21 @@ module _ {ℓ} {A : Type ℓ} where
   kept-all p [] h = refl
   kept-all p (x ∷ xs) h = rw (h .0) (ap (λ (r : List A). x ∷ r) (kept-all p xs (h .1)))
 
+  -- one element more, as a loop goes on
+  pub kept-here : (p : A → Bool) (x : A) (xs : List A) → p x ≡ true → kept p (x ∷ xs) ≡ x ∷ kept p xs
+  unfolding kept consIf
+  kept-here p x xs e = rw e
+
+  pub kept-past : (p : A → Bool) (x : A) (xs : List A) → p x ≡ false → kept p (x ∷ xs) ≡ kept p xs
+  unfolding kept consIf
+  kept-past p x xs e = rw e
+
+  -- the same test, put another way
+  pub kept-same : (p q : A → Bool) (l : List A) → All (λ x. p x ≡ q x) l → kept p l ≡ kept q l
+  unfolding kept
+  kept-same p q [] h = refl
+  kept-same p q (x ∷ xs) h = rw (h .0, kept-same p q xs (h .1))
+
   pub kept-kept : (p : A → Bool) (l : List A) → kept p (kept p l) ≡ kept p l
   kept-kept p l = kept-all p (kept p l) (kept-pass p l)
 

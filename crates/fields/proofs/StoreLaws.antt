@@ -5,8 +5,8 @@ use mathlib.Core.Logic.{_⊎_, inl, inr}
 use Prim.Native.Nat.{ℕ, zero, suc, _+_, _-_, _^_, _≤_, _<_, min}
 use native.Mathlib.Nat.{eq-zero-or-pos}
 use native.Mathlib.Omega.{arith}
-use mathlib.Core.List.{[], _∷_, _++_, append-assoc}
-use lib.ListN.{length, take, drop, set, length-set, length-take}
+use mathlib.Core.List.{[], _∷_, _++_, append-assoc, append-nil}
+use lib.ListN.{length, take, drop, set, length-set, length-take, length-drop, take-append-drop, drop-of-length-le}
 use lib.Seq.{take-all, sets, sets-eq, paste, length-take-le, take-at, drop-at, set-out, drop-set-lt, drop-set-add, take-set-le}
 use Rattle.fields.specs.Bytes.{Bytes, part, num, bytesOf}
 use Rattle.fields.proofs.ByteLaws.{num-bytesOf, length-bytesOf}
@@ -17,6 +17,10 @@ sets-append d at [] ys = let e : at + 0 ≡ at = omega arith in rw e
 sets-append d at (x ∷ xs) ys =
     let e : at + suc (length xs) ≡ suc at + length xs = omega arith in
     rw e (sets-append (set d at x) (suc at) xs ys)
+
+-- a field of known width, and what is stored behind it
+pub store-behind : (d : Bytes) (at p w : ℕ) (f rest : Bytes) → length f ≡ w → p ≡ at + w → sets (sets d at f) p rest ≡ sets d at (f ++ rest)
+store-behind d at p w f rest e q = sym (sets-append d at f rest ∙ rw (e, ← q))
 
 -- past the end nothing is stored
 pub sets-out : (d : Bytes) (at : ℕ) (xs : Bytes) → length d ≤ at → sets d at xs ≡ d
@@ -41,6 +45,33 @@ pub paste-sets : (d : Bytes) (at : ℕ) (s : Bytes) (n : ℕ) → n ≤ length s
 paste-sets d at s n hs hd =
     let e : length (take n s) ≡ n = length-take-le n s hs in
     sym (sets-eq (take n s) d at (rw e hd) ∙ ap (λ (k : ℕ). take at d ++ take n s ++ drop (at + k) d) e)
+
+-- ---- a part from a place on, lent and come back
+
+-- the part of a list from a place to its end
+pub tail-part : (l : Bytes) (a : ℕ) → take (length l - a) (drop a l) ≡ drop a l
+tail-part l a = take-all (length l - a) (drop a l) (simp length-drop (omega arith))
+
+-- storing in the part is storing in the whole
+pub sets-tail : (l : Bytes) (a i : ℕ) (xs : Bytes) → take a l ++ sets (drop a l) i xs ≡ sets l (a + i) xs
+sets-tail l a i [] = take-append-drop a l
+sets-tail l a i (x ∷ xs) =
+    let front : take a l ≡ take a (set l (a + i) x) = sym (take-set-le a l (a + i) x (omega arith)) in
+    let back : set (drop a l) i x ≡ drop a (set l (a + i) x) = sym (drop-set-add a l i x) in
+    let e : a + suc i ≡ suc (a + i) = omega arith in
+    rw (front, back) (rw e at (sets-tail (set l (a + i) x) a (suc i) xs))
+
+-- a part that was lent to be stored in, and is back
+pub lent-back : (l ys : Bytes) (a : ℕ) (xs : Bytes) → ys ≡ sets (take (length l - a) (drop a l)) 0 xs
+    → take a l ++ (ys ++ drop (length l - a) (drop a l)) ≡ sets l a xs
+lent-back l ys a xs e =
+    let none : drop (length l - a) (drop a l) ≡ [] = drop-of-length-le (drop a l) {i = length l - a} (simp length-drop (omega arith)) in
+    let z : a + 0 ≡ a = omega arith in
+    rw (e, none, append-nil, tail-part l a) (rw z at (sets-tail l a 0 xs))
+
+-- all of a list stored over
+pub sets-all : (l xs : Bytes) → length xs ≡ length l → sets l 0 xs ≡ xs
+sets-all l xs e = sets-eq xs l 0 (omega arith) ∙ rw (drop-of-length-le l {i = 0 + length xs} (omega arith), append-nil xs)
 
 -- ---- what was stored is read back
 

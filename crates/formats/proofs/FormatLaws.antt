@@ -26,3 +26,12 @@ above (suc zero) h = absurd (omega arith)
 above (suc (suc zero)) h = absurd (omega arith)
 above (suc (suc (suc zero))) h = absurd (omega arith)
 above (suc (suc (suc (suc f)))) h = record { size = refl; time = refl; colour = refl }
+
+-- every format has the shared first 20 bytes
+pub shared-first : (f : ℕ) → f ≤ 3 → 20 ≤ formatSize f
+unfolding formatSize
+shared-first zero h = omega arith
+shared-first (suc zero) h = omega arith
+shared-first (suc (suc zero)) h = omega arith
+shared-first (suc (suc (suc zero))) h = omega arith
+shared-first (suc (suc (suc (suc f)))) h = absurd (omega arith)

@@ -10,7 +10,7 @@ use lib.Signed.{ltZ}
 use mir.Syntax.{w32}
 use mir.Val.{toZ}
 use Rattle.fields.specs.Lists.{kept}
-use Rattle.fields.specs.Bytes.{Bytes, part, num, bytesOf, zeros, join}
+use Rattle.fields.specs.Bytes.{Bytes, part, num, bytesOf, join}
 use Rattle.points.specs.Points.{bits}
 use Rattle.scaling.specs.Scaling.{boundsOf}
 use Rattle.scaling.specs.declared.Scaling.{Scaling}

@@ -12,7 +12,7 @@ use Rattle.fields.specs.Lists.{All, total}
 use Rattle.fields.specs.Bytes.{Bytes, AllBytes, part, num, bytesOf, join, Fit, start}
 use Rattle.fields.specs.Text.{cut, padded}
 use Rattle.records.specs.Records.{Record, recordWidths, frontSize, payloadLength, recordOf, sizeOf, places, walk, walkEnd, recordFields, recordBytes, recordLen, recordsBytes}
-use Rattle.fields.proofs.ByteLaws.{num-bytesOf, length-bytesOf, num-part-lt, length-part, field-back, length-join, drop-bytes}
+use Rattle.fields.proofs.ByteLaws.{num-bytesOf, length-bytesOf, num-part-lt, length-part, part-drop, field-back, length-join, drop-bytes}
 use Rattle.fields.proofs.TextLaws.{Held, held, length-padded}
 
 -- a record that can be written and read back
@@ -23,6 +23,11 @@ pub record SoundRecord (lw : ℕ) (r : Record) : Type 0 where
   pub payload : length (r .payload) < 256 ^ lw
 
 -- ---- reading a file
+
+-- a record's size, by the number at its place
+pub size-is : (s : Bytes) (at n : ℕ) → n ≡ num (part (at + 20) 2 s) → 54 + n ≡ sizeOf 2 (drop at s)
+unfolding sizeOf payloadLength
+size-is s at n e = ap (λ (k : ℕ). 54 + k) (rw part-drop e)
 
 -- a record is as long as its header, at least
 pub front-in-size : (lw : ℕ) (s : Bytes) → frontSize lw ≤ sizeOf lw s
@@ -41,6 +46,10 @@ walkEnd-step lw n at s = refl
 pub walkEnd-one : (lw at : ℕ) (s : Bytes) → walkEnd lw 1 at s ≡ at + sizeOf lw (drop at s)
 unfolding walkEnd
 walkEnd-one lw at s = refl
+
+pub walk-step : (lw n at : ℕ) (s : Bytes) → walk lw (suc n) at s ≡ recordOf lw (drop at s) ∷ walk lw n (at + sizeOf lw (drop at s)) s
+unfolding walk places
+walk-step lw n at s = refl
 
 -- one record more, as a loop goes on
 pub walkEnd-suc : (lw n at : ℕ) (s : Bytes) → walkEnd lw (suc n) at s ≡ walkEnd lw n at s + sizeOf lw (drop (walkEnd lw n at s) s)
@@ -61,12 +70,12 @@ walkEnd-mono lw (suc m) zero at s h = absurd (not-suc-le-zero h)
 walkEnd-mono lw (suc m) (suc n) at s h = walkEnd-mono lw m n (at + sizeOf lw (drop at s)) s (omega arith)
 
 module _ (lw : ℕ) (s : Bytes) (bytes : AllBytes s) where
-  payload-length : (at : ℕ) → at + sizeOf lw (drop at s) ≤ length s
+  pub payload-length : (at : ℕ) → at + sizeOf lw (drop at s) ≤ length s
       → length (recordOf lw (drop at s) .payload) ≡ payloadLength lw (drop at s)
   unfolding recordOf sizeOf
   payload-length at h = length-part (frontSize lw) (payloadLength lw (drop at s)) (drop at s) (simp length-drop (omega arith))
 
-  sound-record : (at : ℕ) → at + sizeOf lw (drop at s) ≤ length s → SoundRecord lw (recordOf lw (drop at s))
+  pub sound-record : (at : ℕ) → at + sizeOf lw (drop at s) ≤ length s → SoundRecord lw (recordOf lw (drop at s))
   sound-record at h =
       record {
         user = unfold recordOf in held 2 16 (drop at s);
@@ -82,7 +91,7 @@ module _ (lw : ℕ) (s : Bytes) (bytes : AllBytes s) where
   walk-sound (suc n) at h =
       (sound-record at (omega (arith, walk-grows lw n (at + sizeOf lw (drop at s)) s)), walk-sound n (at + sizeOf lw (drop at s)) h)
 
-  record-size : (at : ℕ) → at + sizeOf lw (drop at s) ≤ length s → recordLen lw (recordOf lw (drop at s)) ≡ sizeOf lw (drop at s)
+  pub record-size : (at : ℕ) → at + sizeOf lw (drop at s) ≤ length s → recordLen lw (recordOf lw (drop at s)) ≡ sizeOf lw (drop at s)
   record-size at h = unfold recordLen sizeOf in ap (λ (n : ℕ). frontSize lw + n) (payload-length at h)
 
   -- they fill the room between their place and the walk's end
@@ -100,7 +109,7 @@ module _ (lw : ℕ) (s : Bytes) (bytes : AllBytes s) where
 -- ---- reading back what was written
 
 module _ (lw : ℕ) where
-  fit : (r : Record) → SoundRecord lw r → Fit (recordWidths lw (length (r .payload))) (recordFields lw r)
+  pub fit : (r : Record) → SoundRecord lw r → Fit (recordWidths lw (length (r .payload))) (recordFields lw r)
   fit r h = (
     refl,
     (

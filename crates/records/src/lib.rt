@@ -1,6 +1,6 @@
 // Variable length records: the walk from one to the next.
 ghost use mathlib.Core.Path.{_≡_};
-ghost use Prim.Native.Nat.{_+_, _≤_, _<_, _^_};
+ghost use Prim.Native.Nat.{_<_, _^_};
 ghost use lib.Dec.{leb};
 ghost use lib.ListN.{drop};
 ghost use Rattle.records.specs.Records.{sizeOf, walkEnd};
@@ -8,11 +8,13 @@ ghost use Rattle.records.specs.Records.{sizeOf, walkEnd};
 // The bytes of a record's header.
 pub const FRONT: usize = 54;
 
-// The size of the record at a place: its header and its payload.
-pub(crate) fn size_at(file: &[u8], at: usize) -> usize
-    requires { ⌜ at + 54 < 2 ^ 64 ⌝ }
-    ensures { λ r. ⌜ (r ≡ sizeOf 2 (drop at (now (file .entry)))) × (r ≤ 65589) ⌝ }
+// The size of the record at a place: its header and its payload. Bytes past the end count as 0.
+pub fn size_at(file: &[u8], at: usize) -> usize
+    ensures { λ r. ⌜ (r ≡ sizeOf 2 (drop at (now (file .entry)))) × (r < 2 ^ 17) ⌝ }
 {
+    if file.len() <= at {
+        return FRONT;
+    }
     FRONT + fields::numbers::number_at(file, at + 20, 2) as usize
 }
 

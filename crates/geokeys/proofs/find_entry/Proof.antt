@@ -8,10 +8,9 @@ use native.Mathlib.Omega.{arith}
 use borrow.Author.Needs.{needs}
 use borrow.Author.Tests.{eq-eqb, ne-eqb}
 use lib.ListN.{drop}
-use lib.Seq.{drop-drop}
 use lib.Dec.{eqb}
 use Rattle.fields.specs.Bytes.{Bytes, part, num, pieces}
-use Rattle.fields.proofs.ByteLaws.{part-part}
+use Rattle.fields.proofs.ByteLaws.{part-part, pieces-step}
 use Rattle.geokeys.specs.GeoKeys.{first, keyCount, keyOf, entries, entryOf}
 use Rattle.geokeys.specs.Places.{entryIn}
 use Rattle.geokeys.specs.declared.Found.the-variants.{At, Nothing}
@@ -39,10 +38,7 @@ key-at d at = let e : at + 0 ≡ at = omega arith in ap num (part-part at 8 0 2 
 module _ (d : Bytes) (key left at : ℕ) (more : 0 < left) (inv : Searching d key left at) where
   -- the entry at hand, and the others
   in-two : entryOf d key ≡ first (has key) (part at 8 d ∷ pieces (left - 1) 8 (drop (at + 8) d))
-  unfolding pieces part
-  in-two =
-      let n : left ≡ suc (left - 1) = omega arith in
-      inv .same ∙ ap (λ (k : ℕ). first (has key) (pieces k 8 (drop at d))) n ∙ rw drop-drop
+  in-two = inv .same ∙ ap (first (has key)) (pieces-step left 8 at d more)
 
   found : num (part at 2 d) ≡ key → entryIn d (At at) ≡ entryOf d key
   unfolding entryIn

@@ -9,9 +9,9 @@ use denote.Ref.{now}
 use lib.ListN.{drop}
 use Rattle.fields.specs.Bytes.{Bytes, AllBytes, part, num}
 use Rattle.fields.specs.declared.Verdict.the-variants.{Passes}
-use Rattle.fields.proofs.ByteLaws.{num-part-lt, part-drop}
-use Rattle.records.specs.Records.{places, walkEnd, sizeOf, payloadLength}
-use Rattle.records.proofs.RecordLaws.{walkEnd-step, walk-grows, front-in-size}
+use Rattle.fields.proofs.ByteLaws.{num-part-lt}
+use Rattle.records.specs.Records.{places, walkEnd, sizeOf}
+use Rattle.records.proofs.RecordLaws.{walkEnd-step, walk-grows, front-in-size, size-is}
 use Rattle.lasfile.specs.FileChecks.{headerSize, recordCount, pointOffset, recordsEnd, fileVerdict}
 use Rattle.lasfile.proofs.Passed.{passed}
 use Rattle.geokeys.specs.GeoKeys.{first, isProjection, projectionPlace}
@@ -62,13 +62,9 @@ module _ (s : Bytes) (id left at : ℕ) (more : 0 < left) (inv : Searching s id 
   same-later other =
       inv .same ∙ ap (λ (k : ℕ). first (isProjection s id) (places 2 k at s)) suc-left ∙ first-later (isProjection s id) at _ other
 
-  size-is : (n : ℕ) → n ≡ num (part (at + 20) 2 s) → 54 + n ≡ sizeOf 2 (drop at s)
-  unfolding sizeOf payloadLength
-  size-is n e = ap (λ (k : ℕ). 54 + k) (rw part-drop e)
-
   onwards : (n : ℕ) → n ≡ num (part (at + 20) 2 s) → isProjection s id at ≡ false → Searching s id (left - 1) (at + (54 + n))
   onwards n e other =
-      rw (size-is n e)
+      rw (size-is s at n e)
       record {
         same = same-later other;
         inside = omega (arith, inv .inside, ap (λ (k : ℕ). walkEnd 2 k at s) suc-left ∙ walkEnd-step 2 (left - 1) at s);

@@ -1,18 +1,17 @@
 -- `records::size_at` meets its contract. Assumes nothing.
-use mathlib.Core.Path.{_≡_, ap}
-use Prim.Native.Nat.{ℕ, _+_}
+use mathlib.Core.Path.{sym}
+use Prim.Native.Nat.{_+_}
 use native.Mathlib.Omega.{arith}
-use lib.ListN.{drop}
-use Rattle.fields.specs.Bytes.{Bytes, part, num}
-use Rattle.fields.proofs.ByteLaws.{part-drop}
-use Rattle.records.specs.Records.{sizeOf, payloadLength}
+use Rattle.fields.proofs.ByteLaws.{num-past}
+use Rattle.records.proofs.RecordLaws.{size-is}
 use borrow.Author.Needs.{needs}
 use Rattle.records.proofs.size_at.Statement.{statement}
 use Rattle.records.proofs.size_at.Tie as tie
 
-size-is : (s : Bytes) (at n : ℕ) → n ≡ num (part (at + 20) 2 s) → 54 + n ≡ sizeOf 2 (drop at s)
-unfolding sizeOf payloadLength
-size-is s at n e = ap (λ (k : ℕ). 54 + k) (rw part-drop e)
+returns : tie.Need-returns
+returns c =
+    let a = c .before .before .args in
+    (size-is (a .file .now) (a .at) 0 (sym (num-past (a .at + 20) 2 (a .file .now) (omega arith))), omega arith)
 
 add-number-at : tie.Need-add-number-at
 add-number-at c = search needs
@@ -23,8 +22,10 @@ number-at-requires c κs = search needs
 add-result : tie.Need-add-result
 add-result c = search needs
 
-returns : tie.Need-returns
-returns c = let a = c .before .before .args in (size-is (a .file .now) (a .at) _ (c .number-at .ensures .0), omega arith)
+returns-2 : tie.Need-returns-2
+returns-2 c =
+    let a = c .before .before .before .args in
+    (size-is (a .file .now) (a .at) _ (c .number-at .ensures .0), omega arith)
 
 pub size-at-spec : {M : Type 1} → statement M
-size-at-spec = tie.close (tie.spec add-number-at number-at-requires add-result returns)
+size-at-spec = tie.close (tie.spec returns add-number-at number-at-requires add-result returns-2)

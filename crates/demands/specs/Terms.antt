@@ -1,0 +1,30 @@
+-- Terms of the theorems: a file that passes, the released file's length, an accepted release, and its output read as a file.
+-- Assumes nothing.
+use mathlib.Core.Path.{_≡_}
+use Prim.Native.Nat.{ℕ}
+use lib.ListN.{length, take}
+use Rattle.fields.specs.Bytes.{Bytes, AllBytes}
+use Rattle.fields.specs.declared.Verdict.the-variants.{Passes}
+use Rattle.lasfile.specs.FileChecks.{fileVerdict}
+use Rattle.publicpart.specs.Public.{publicOf}
+use Rattle.publicpart.specs.Render.{render}
+use Rattle.publicpart.specs.declared.Answer.the-variants.{Released}
+use Rattle.publicpart.specs.Release.{release}
+
+-- a file is bytes, and passes the file checks
+pub record Good (file : Bytes) : Type 0 where
+  pub bytes : AllBytes file
+  pub passes : fileVerdict file ≡ Passes
+
+-- the length of the released file
+abbrev pub needed : Bytes → Bytes → ℕ
+needed sheet file = length (render (publicOf sheet file))
+
+-- a release of the bytes f into the output a is accepted, and returns the file length n and these numbers of kept points and kept records
+pub record Accepted (sheet f a : Bytes) (n points records : ℕ) : Type 0 where
+  pub bytes : AllBytes f
+  pub answer : release sheet f a .0 ≡ Released n points records
+
+-- of the output as a file, with the zeros behind the returned length n and without
+abbrev pub OfOutput : Bytes → Bytes → Bytes → ℕ → (Bytes → Type 0) → Type 0
+OfOutput sheet f a n P = P (release sheet f a .1) × P (take n (release sheet f a .1))

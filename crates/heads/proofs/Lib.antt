@@ -1,0 +1,2 @@
+pub mod FieldStores
+pub mod HeadLaws

@@ -1,0 +1,42 @@
+-- Laws of counts and bounds as they are written: their lengths, and each number at its place.
+-- Assumes nothing.
+use mathlib.Core.Path.{_≡_, refl, ap, _∙_}
+use Prim.Native.Nat.{ℕ, zero, suc, _+_, _*_, _<_}
+use native.Mathlib.Nat.{not-suc-le-zero}
+use native.Mathlib.Omega.{arith}
+use mathlib.Core.List.{List, [], _∷_, map}
+use lib.ListN.{length, getD, length-append, length-map}
+use Rattle.fields.specs.Bytes.{Bytes, part, join, bytesOf}
+use Rattle.fields.proofs.ByteLaws.{length-bytesOf, part-front, part-behind}
+use Rattle.scaling.specs.declared.Scaling.{Scaling}
+use Rattle.publicpart.specs.Bounds.{numbersBytes, upFrom, bins, boundNumbers, bounds}
+
+pub length-numbers : (w : ℕ) (ns : List ℕ) → length (numbersBytes w ns) ≡ length ns * w
+unfolding numbersBytes join
+length-numbers w [] = omega arith
+length-numbers w (n ∷ ns) = omega (arith, length-append (bytesOf w n) (join (map (bytesOf w) ns)), length-bytesOf w n, length-numbers w ns)
+
+-- number i of them, at its place
+pub numbers-at : (w : ℕ) (ns : List ℕ) (i : ℕ) → i < length ns → part (i * w) w (numbersBytes w ns) ≡ bytesOf w (getD ns i 0)
+unfolding numbersBytes join
+numbers-at w [] i h = absurd (not-suc-le-zero h)
+numbers-at w (n ∷ ns) zero h =
+    let e : 0 * w ≡ 0 = omega arith in
+    rw e (part-front w (bytesOf w n) (join (map (bytesOf w) ns)) (length-bytesOf w n))
+numbers-at w (n ∷ ns) (suc i) h =
+    let e : suc i * w ≡ w + i * w = omega arith in
+    rw e (part-behind w (i * w) w (bytesOf w n) (join (map (bytesOf w) ns)) (length-bytesOf w n) ∙ numbers-at w ns i (omega arith))
+
+length-upFrom : (from n : ℕ) → length (upFrom from n) ≡ n
+unfolding upFrom
+length-upFrom from zero = refl
+length-upFrom from (suc n) = ap suc (length-upFrom (suc from) n)
+
+pub length-bins : (n : ℕ) (ps : List Bytes) → length (bins n ps) ≡ n
+unfolding bins
+length-bins n ps = simp (length-map, length-upFrom)
+
+pub length-bounds : (c : Scaling) (ps : List Bytes) → length (bounds c ps) ≡ 6
+unfolding bounds boundNumbers
+length-bounds c [] = refl
+length-bounds c (p ∷ ps) = refl

@@ -1,0 +1,39 @@
+-- A released file is no longer than its source: what a sheet leaves is no longer, and the contents of a file fit into it.
+-- Assumes nothing.
+use Prim.Native.Nat.{_≤_}
+use native.Mathlib.Nat.{mul-le-mul-right}
+use native.Mathlib.Omega.{arith}
+use lib.ListN.{length, drop}
+use Rattle.fields.specs.Bytes.{Bytes, AllBytes}
+use Rattle.fields.proofs.ListLaws.{total-kept, length-kept}
+use Rattle.fields.proofs.ByteLaws.{length-pieces}
+use Rattle.records.specs.Records.{recordLen}
+use Rattle.records.proofs.RecordLaws.{walk-total}
+use Rattle.lasfile.specs.FileChecks.{headerSize, pointOffset, recordCount, recordLength, pointCount, recordsEnd}
+use Rattle.lasfile.proofs.Passed.{Passed}
+use Rattle.sheet.specs.Sheet.{keepsPoint}
+use Rattle.publicpart.specs.Public.{Public, carriedOf, contents, restrict, publicOf, keptRecord}
+use Rattle.publicpart.specs.Render.{newOffset, totals}
+
+restrict-shorter : (sheet : Bytes) (p : Public) → totals (restrict sheet p) .fileLength ≤ totals p .fileLength
+unfolding totals restrict newOffset
+restrict-shorter sheet p =
+    omega (
+      arith,
+      total-kept (recordLen 2) (keptRecord sheet) (p .records),
+      mul-le-mul-right (p .carried .recordLength) (length-kept (keepsPoint sheet (p .carried .format)) (p .points)),
+    )
+
+module _ (s : Bytes) (bytes : AllBytes s) (p : Passed s) where
+  inside : recordsEnd s ≤ length s
+  inside = omega arith
+
+  contents-fit : totals (contents s) .fileLength ≤ length s
+  unfolding totals contents carriedOf newOffset recordsEnd
+  contents-fit =
+      rw (length-pieces (pointCount s) (recordLength s) (drop (pointOffset s) s))
+      (omega (arith, walk-total 2 s bytes (recordCount s) (headerSize s) inside, p .walked, p .headerLow, p .pointed))
+
+  pub no-longer : (sheet : Bytes) → totals (publicOf sheet s) .fileLength ≤ length s
+  unfolding publicOf
+  no-longer sheet = omega (arith, restrict-shorter sheet (contents s), contents-fit)

@@ -1,0 +1,96 @@
+-- A sound public part: it can be written and read back. The contents of a file that passes are sound, and so is what a sheet leaves of something sound.
+-- Assumes nothing.
+use mathlib.Core.Path.{_≡_}
+use Prim.Native.Nat.{_^_, _≤_, _<_}
+use native.Mathlib.Omega.{arith}
+use lib.ListN.{length, drop, length-drop}
+use lib.Dec.{T}
+use Rattle.fields.specs.Lists.{All}
+use Rattle.fields.specs.Bytes.{Bytes, AllBytes}
+use Rattle.fields.proofs.ListLaws.{All-kept, total-kept, length-kept, kept-kept, kept-comm}
+use Rattle.fields.proofs.ByteLaws.{num-part-lt, length-part, length-pieces, pieces-width}
+use Rattle.fields.proofs.TextLaws.{Held, held}
+use Rattle.formats.specs.Formats.{formatSize}
+use Rattle.records.specs.Records.{recordLen}
+use Rattle.records.proofs.RecordLaws.{SoundRecord, walk-sound, walk-total, length-walk}
+use Rattle.scaling.specs.Scaling.{scalingIn, scalingOf, goodScaling}
+use Rattle.lasfile.specs.FileChecks.{headerSize, pointOffset, recordCount, format, recordLength, pointCount, recordsEnd}
+use Rattle.lasfile.proofs.Passed.{Passed}
+use Rattle.sheet.specs.Sheet.{keepsPoint}
+use Rattle.publicpart.specs.Public.{Carried, Public, carriedOf, contents, restrict, keptRecord}
+use Rattle.publicpart.specs.Render.{newOffset}
+
+pub record SoundCarried (c : Carried) : Type 0 where
+  pub ids : length (c .ids) ≡ 20
+  pub system : Held 32 (c .system)
+  pub software : Held 32 (c .software)
+  pub day : c .day < 256 ^ 2
+  pub year : c .year < 256 ^ 2
+  pub format : c .format ≤ 3
+  pub recordLength : c .recordLength < 256 ^ 2
+  pub recordLow : formatSize (c .format) ≤ c .recordLength
+  pub scaling : length (c .scaling) ≡ 48
+  pub scaled : T (goodScaling (scalingIn (c .scaling)))
+
+pub record Sound (p : Public) : Type 0 where
+  pub carried : SoundCarried (p .carried)
+  pub records : All (SoundRecord 2) (p .records)
+  pub recordCount : length (p .records) < 256 ^ 4
+  pub offset : newOffset p < 256 ^ 4
+  pub points : All (λ b. length b ≡ p .carried .recordLength) (p .points)
+  pub pointCount : length (p .points) < 256 ^ 4
+
+module _ (s : Bytes) (bytes : AllBytes s) (p : Passed s) where
+  sound-carried : SoundCarried (carriedOf s)
+  unfolding carriedOf format recordLength scalingOf
+  sound-carried =
+      record {
+        ids = length-part 4 20 s (omega arith);
+        system = held 26 32 s;
+        software = held 58 32 s;
+        day = num-part-lt 90 2 s bytes;
+        year = num-part-lt 92 2 s bytes;
+        format = p .formatted;
+        recordLength = num-part-lt 105 2 s bytes;
+        recordLow = p .recordLow;
+        scaling = length-part 131 48 s (omega arith);
+        scaled = p .scaled;
+      }
+
+  inside : recordsEnd s ≤ length s
+  inside = omega arith
+
+  pub sound : Sound (contents s)
+  unfolding contents carriedOf newOffset headerSize pointOffset recordCount recordLength pointCount recordsEnd
+  sound =
+      record {
+        carried = sound-carried;
+        records = walk-sound 2 s bytes (recordCount s) (headerSize s) inside;
+        recordCount = omega (arith, length-walk 2 s bytes (recordCount s) (headerSize s), num-part-lt 100 4 s bytes);
+        offset = omega (arith, walk-total 2 s bytes (recordCount s) (headerSize s) inside, num-part-lt 96 4 s bytes);
+        points = pieces-width (pointCount s) (recordLength s) (drop (pointOffset s) s) (simp length-drop (omega arith));
+        pointCount = omega (arith, length-pieces (pointCount s) (recordLength s) (drop (pointOffset s) s), num-part-lt 107 4 s bytes);
+      }
+
+pub sound-restrict : (sheet : Bytes) (p : Public) → Sound p → Sound (restrict sheet p)
+unfolding restrict newOffset
+sound-restrict sheet p h =
+    record {
+      carried = h .carried;
+      records = All-kept (SoundRecord 2) (keptRecord sheet) (p .records) (h .records);
+      recordCount = omega (arith, length-kept (keptRecord sheet) (p .records), h .recordCount);
+      offset = omega (arith, total-kept (recordLen 2) (keptRecord sheet) (p .records), h .offset);
+      points = All-kept (λ b. length b ≡ p .carried .recordLength) (keepsPoint sheet (p .carried .format)) (p .points) (h .points);
+      pointCount = omega (arith, length-kept (keepsPoint sheet (p .carried .format)) (p .points), h .pointCount);
+    }
+
+-- what a sheet leaves stays under that sheet
+pub restrict-restrict : (sheet : Bytes) (p : Public) → restrict sheet (restrict sheet p) ≡ restrict sheet p
+unfolding restrict
+restrict-restrict sheet p = simp kept-kept
+
+-- two sheets in either order
+pub restrict-comm : (s t : Bytes) (p : Public) → restrict s (restrict t p) ≡ restrict t (restrict s p)
+unfolding restrict
+restrict-comm s t p =
+    rw (kept-comm (keptRecord s) (keptRecord t) (p .records), kept-comm (keepsPoint s (p .carried .format)) (keepsPoint t (p .carried .format)) (p .points))

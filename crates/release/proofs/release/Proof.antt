@@ -1,0 +1,165 @@
+-- `release::release` meets its contract. Assumes nothing.
+use mathlib.Core.Path.{_≡_, sym, _∙_}
+use Prim.Native.Nat.{_-_, _≤_}
+use native.Mathlib.Omega.{arith}
+use denote.Ref.{now}
+use lib.ListN.{length, drop}
+use Rattle.fields.specs.Bytes.{Bytes, AllBytes, part, num}
+use Rattle.fields.specs.declared.Verdict.the-variants.{Passes}
+use Rattle.fields.proofs.StoreLaws.{tail-part}
+use Rattle.lasfile.specs.FileChecks.{pointOffset, pointCount, recordLength, fileVerdict}
+use Rattle.lasfile.proofs.Passed.{passed}
+use Rattle.sheet.specs.Sheet.{sheetVerdict}
+use Rattle.tally.specs.Tally.{keptTally}
+use Rattle.publicpart.specs.Release.{accepted}
+use Rattle.publicpart.proofs.AnswerLaws.{refused-by-file, refused-by-sheet, release-short, release-long}
+use Rattle.release.proofs.AssemblyLaws.{Sized, sized}
+use borrow.Author.Needs.{needs}
+use Rattle.release.proofs.release.Statement.{statement}
+use Rattle.release.proofs.release.Tie as tie
+
+file-bytes : (c : tie.After-shared-slice-known) → AllBytes (now (c .before .args .file))
+file-bytes c i = omega (arith, c .shared-slice-known .given i)
+
+file-passes : (c : tie.After-enum-told) → fileVerdict (now (c .before .before .before .before .before .before .args .file)) ≡ Passes
+file-passes c = sym (c .before .before .check-file .ensures) ∙ c .enum-told .given .1
+
+sheet-passes : (c : tie.After-enum-told2) → sheetVerdict (now (c .before .before .before .before .before .before .before .before .before .args .sheet)) ≡ Passes
+sheet-passes c = sym (c .before .before .check-sheet .ensures) ∙ c .enum-told2 .given .1
+
+offset-inside : (c : tie.After-class-table) → c .before .before .before .number-at .result ≤ length (now (c .before .before .before .before .before .before .before .before .before .before .before .before .before .args .file))
+unfolding pointOffset
+offset-inside c = omega (arith, passed _ (file-passes (c .before .before .before .before .before .before .before)) .offsetHigh, c .before .before .before .number-at .ensures .0)
+
+-- the tally is that of the file's points
+tally-is : (c : tie.After-tally-points)
+    → c .tally-points .result ≡ keptTally (c .before .before .class-table .result) (pointCount (now (c .before .before .before .before .before .before .before .before .before .before .before .before .before .before .before .args .file))) (recordLength (now (c .before .before .before .before .before .before .before .before .before .before .before .before .before .before .before .args .file))) (drop (pointOffset (now (c .before .before .before .before .before .before .before .before .before .before .before .before .before .before .before .args .file))) (now (c .before .before .before .before .before .before .before .before .before .before .before .before .before .before .before .args .file)))
+unfolding pointOffset pointCount recordLength
+tally-is c =
+    rw (tail-part, c .before .before .before .before .before .number-at .ensures .0, c .before .before .before .before .number-at2 .ensures .0, c .before .before .before .number-at3 .ensures .0) at (c .tally-points .ensures)
+
+length-is : (c : tie.After-number-at2) → c .number-at2 .result ≡ recordLength (now (c .before .before .before .before .before .before .before .before .before .before .before .args .file))
+unfolding recordLength
+length-is c = c .number-at2 .ensures .0
+
+measured : (c : tie.After-measure)
+    → Sized (now (c .before .before .before .before .before .before .before .before .before .before .before .before .before .before .before .before .args .sheet)) (now (c .before .before .before .before .before .before .before .before .before .before .before .before .before .before .before .before .args .file)) (c .before .tally-points .result) (c .before .before .before .before .before .number-at2 .result) (c .measure .result .count) (c .measure .result .length)
+measured c =
+    sized _ _ (file-bytes (c .before .before .before .before .before .before .before .before .before .before .before .before .before .before .before)) (file-passes (c .before .before .before .before .before .before .before .before .before .before)) (c .before .before .before .class-table .result) (c .before .before .before .class-table .ensures) _ (tally-is (c .before)) _ (length-is (c .before .before .before .before .before)) _ _ (c .measure .ensures)
+
+check-file-requires : tie.Need-check-file-requires
+check-file-requires c κs = search needs
+
+enum-known-verdict : tie.Need-enum-known-verdict
+enum-known-verdict c = search needs
+
+returns : tie.Need-returns
+returns c = sym (refused-by-file _ _ _ _ (sym (c .before .before .before .check-file .ensures) ∙ c .before .verdict .given .1))
+
+enum-told : tie.Need-enum-told
+enum-told c = search needs
+
+check-sheet-requires : tie.Need-check-sheet-requires
+check-sheet-requires c κs = search needs
+
+enum-known-sheet-verdict : tie.Need-enum-known-sheet-verdict
+enum-known-sheet-verdict c = search needs
+
+returns-2 : tie.Need-returns-2
+returns-2 c = sym (refused-by-sheet _ _ _ (file-passes (c .before .before .before .before)) _ (sym (c .before .before .before .check-sheet .ensures) ∙ c .before .sheet-verdict .given .1))
+
+enum-told-2 : tie.Need-enum-told-2
+enum-told-2 c = search needs
+
+number-at-requires : tie.Need-number-at-requires
+number-at-requires c κs = search needs
+
+number-at-requires-2 : tie.Need-number-at-requires-2
+number-at-requires-2 c κs = search needs
+
+number-at-requires-3 : tie.Need-number-at-requires-3
+number-at-requires-3 c κs = search needs
+
+class-table-requires : tie.Need-class-table-requires
+class-table-requires c κs = search needs
+
+sub-tally-points : tie.Need-sub-tally-points
+sub-tally-points c = offset-inside c
+
+part-tally-points-start : tie.Need-part-tally-points-start
+part-tally-points-start c = offset-inside c
+
+part-tally-points-end : tie.Need-part-tally-points-end
+part-tally-points-end c = search needs
+
+tally-points-requires : tie.Need-tally-points-requires
+tally-points-requires c κs = search needs
+
+measure-requires : tie.Need-measure-requires
+measure-requires c κs = file-passes (c .before .before .before .before .before .before .before .before .before)
+
+add-start : tie.Need-add-start
+add-start c = let m = measured (c .before) in omega (arith, m .needed, m .most, c .before .before .before .before .before .before .before .before .before .before .before .before .before .before .before .before .before .good)
+
+mul-needed : tie.Need-mul-needed
+mul-needed c = let m = measured (c .before) in omega (arith, m .needed, m .most, c .before .before .before .before .before .before .before .before .before .before .before .before .before .before .before .before .before .good)
+
+add-needed : tie.Need-add-needed
+add-needed c = let m = measured (c .before) in omega (arith, m .needed, m .most, c .before .before .before .before .before .before .before .before .before .before .before .before .before .before .before .before .before .good)
+
+returns-3 : tie.Need-returns-3
+returns-3 c =
+    let m = measured (c .before .before) in
+    rw (m .needed) (sym (release-short _ _ _ (file-passes (c .before .before .before .before .before .before .before .before .before .before .before .before)) (sheet-passes (c .before .before .before .before .before .before .before .before .before)) (omega (arith, m .needed))))
+
+write-requires : tie.Need-write-requires
+write-requires c κs =
+    let m = measured (c .before .before .before) in
+    record {
+      passes = file-passes (c .before .before .before .before .before .before .before .before .before .before .before .before .before);
+      table-right = c .before .before .before .before .before .before .class-table .ensures;
+      tallied = tally-is (c .before .before .before .before);
+      counted = m .records;
+      offset = m .offset;
+      needed = m .needed;
+      room = omega arith;
+    }
+
+same-length : tie.Need-same-length
+same-length c = search needs
+
+returns-4 : tie.Need-returns-4
+unfolding accepted
+returns-4 c =
+    let m = measured (c .before .before .before .before .before .before) in
+    rw (c .before .before .write .ensures, m .needed, m .points, m .records)
+    (sym (release-long _ _ _ (file-passes (c .before .before .before .before .before .before .before .before .before .before .before .before .before .before .before .before)) (sheet-passes (c .before .before .before .before .before .before .before .before .before .before .before .before .before)) (omega (arith, m .needed))))
+
+pub release-spec : {M : Type 1} → statement M
+release-spec =
+    tie.close
+    (tie.spec
+    check-file-requires
+    enum-known-verdict
+    returns
+    enum-told
+    check-sheet-requires
+    enum-known-sheet-verdict
+    returns-2
+    enum-told-2
+    number-at-requires
+    number-at-requires-2
+    number-at-requires-3
+    class-table-requires
+    sub-tally-points
+    part-tally-points-start
+    part-tally-points-end
+    tally-points-requires
+    measure-requires
+    add-start
+    mul-needed
+    add-needed
+    returns-3
+    write-requires
+    same-length
+    returns-4)

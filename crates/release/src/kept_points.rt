@@ -1,0 +1,53 @@
+// The points that a sheet keeps: a table of the classes, and writing them.
+ghost use mathlib.Core.Path.{_≡_};
+ghost use mathlib.Core.Bool.{false};
+ghost use Prim.Native.Nat.{ℕ, _*_, _≤_, _<_};
+ghost use lib.ListN.{length, getD};
+ghost use lib.Seq.{sets};
+ghost use Rattle.fields.specs.Lists.{kept};
+ghost use Rattle.fields.specs.Bytes.{pieces, join};
+ghost use Rattle.sheet.specs.Sheet.{keepsClass};
+ghost use Rattle.tally.specs.Tally.{inTable};
+
+// Which of the 256 classes a sheet keeps: entry c is for class c.
+pub(crate) fn class_table(sheet: &[u8]) -> [bool; 256]
+    ensures { λ r. ⌜ ((c : ℕ) → c < 256 → getD r c false ≡ keepsClass (now (sheet .entry)) c) ⌝ }
+{
+    let mut table = [false; 256];
+    for c in 0..256 {
+        let held = sheet::holds_class(sheet, c as u8);
+        table[c] = held;
+    }
+    table
+}
+
+fn wide(b: u8) -> usize
+    ensures { λ r. ⌜ r ≡ b ⌝ }
+{
+    b as usize
+}
+
+// Writes those of the first `count` records of a run that the table keeps, one after the other, to the front of `out`.
+pub(crate) fn copy_points(
+    run: &[u8],
+    record_length: usize,
+    count: usize,
+    table: [bool; 256],
+    out: &mut [u8],
+)
+    requires { ⌜ (15 < «record_length») × (count * «record_length» ≤ length (now run)) ⌝ }
+    ensures { λ _. ⌜ now (out .exit) ≡ sets (now (out .entry)) 0 (join (kept (inTable table) (pieces count «record_length» (now (run .entry))))) ⌝ }
+{
+    let mut at = 0;
+    let mut to = 0;
+    let mut left = count;
+    while 0 < left {
+        let class = wide(run[at + 15]);
+        if table[class] {
+            runs::copy(runs::part_at(run, at, record_length), out, to);
+            to += record_length;
+        }
+        at += record_length;
+        left -= 1;
+    }
+}

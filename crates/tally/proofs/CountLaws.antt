@@ -1,0 +1,65 @@
+-- Laws of a tally's counts: what one point adds to a bin, and how far the counts can have come.
+-- Assumes nothing.
+use mathlib.Core.Path.{_≡_, refl}
+use Prim.Native.Nat.{ℕ, _+_, _≤_}
+use native.Mathlib.Omega.{arith}
+use mathlib.Core.Bool.{Bool, true, false}
+use lib.Dec.{eqb}
+use mir.Val.{boolByte}
+use Rattle.fields.specs.Bytes.{Bytes}
+use Rattle.points.specs.Points.{bit}
+use Rattle.publicpart.specs.Bounds.{returnOf}
+use Rattle.tally.specs.declared.Bins.{Bins}
+use Rattle.tally.specs.declared.Tally.{Tally}
+use Rattle.tally.specs.Tally.{noTally, tallied, binsWith, BinsUpTo, CountsUpTo}
+
+-- a test as a number, as the code makes it
+pub as-bit : (b : Bool) → boolByte b ≡ bit b
+unfolding bit
+as-bit true = refl
+as-bit false = refl
+
+pub bit-le : (b : Bool) → bit b ≤ 1
+unfolding bit
+bit-le true = omega arith
+bit-le false = omega arith
+
+bins-with : (b : Bins) (k n m : ℕ) → BinsUpTo b n → n + 1 ≤ m → BinsUpTo (binsWith b k) m
+unfolding binsWith
+bins-with b k n m u h =
+    record {
+      first = omega (arith, u .first, bit-le (eqb k 1));
+      second = omega (arith, u .second, bit-le (eqb k 2));
+      third = omega (arith, u .third, bit-le (eqb k 3));
+      fourth = omega (arith, u .fourth, bit-le (eqb k 4));
+      fifth = omega (arith, u .fifth, bit-le (eqb k 5));
+    }
+
+-- one point more
+pub counts-with : (t : Tally) (p : Bytes) (n m : ℕ) → CountsUpTo t n → n + 1 ≤ m → CountsUpTo (tallied t p) m
+unfolding tallied
+counts-with t p n m u h = record { total = omega (arith, u .total); each = bins-with (t .bins) (returnOf p) n m (u .each) h }
+
+-- a bound further up
+pub counts-up : (t : Tally) (n m : ℕ) → CountsUpTo t n → n ≤ m → CountsUpTo t m
+counts-up t n m u h =
+    let e = u .each in
+    record {
+      total = omega (arith, u .total);
+      each =
+          record {
+            first = omega (arith, e .first);
+            second = omega (arith, e .second);
+            third = omega (arith, e .third);
+            fourth = omega (arith, e .fourth);
+            fifth = omega (arith, e .fifth);
+          };
+    }
+
+pub counts-none : (n : ℕ) → CountsUpTo noTally n
+unfolding noTally
+counts-none n =
+    record {
+      total = omega arith;
+      each = record { first = omega arith; second = omega arith; third = omega arith; fourth = omega arith; fifth = omega arith };
+    }

@@ -1,0 +1,12 @@
+-- `tally::fresh` meets its contract. Assumes nothing.
+use mathlib.Core.Path.{refl}
+use Rattle.tally.specs.Tally.{noTally, noExtent}
+use Rattle.tally.proofs.fresh.Statement.{statement}
+use Rattle.tally.proofs.fresh.Tie as tie
+
+returns : tie.Need-returns
+unfolding noTally noExtent
+returns c = refl
+
+pub fresh-spec : {M : Type 1} → statement M
+fresh-spec = tie.close (tie.spec returns)

@@ -1,0 +1,15 @@
+-- `tally::larger` meets its contract. Assumes nothing.
+use mir.Syntax.{w32}
+use mir.ValLaws.{toZ-ofZ}
+use Rattle.tally.proofs.TallyLaws.{signed-test}
+use Rattle.tally.proofs.larger.Statement.{statement}
+use Rattle.tally.proofs.larger.Tie as tie
+
+returns : tie.Need-returns
+returns c = rw (signed-test (c .before .fits .a) (c .before .fits .b) (c .if1 .taken)) (toZ-ofZ w32 (c .before .args .b) (c .before .fits .b))
+
+returns-2 : tie.Need-returns-2
+returns-2 c = rw (signed-test (c .before .fits .a) (c .before .fits .b) (c .if1 .left)) (toZ-ofZ w32 (c .before .args .a) (c .before .fits .a))
+
+pub larger-spec : {M : Type 1} → statement M
+larger-spec = tie.close (tie.spec returns returns-2)
