@@ -6,14 +6,14 @@ use Prim.Native.Nat.{ℕ, zero, suc, _+_, _-_, _≤_, _<_, _^_}
 use native.Mathlib.Omega.{arith}
 use borrow.Author.Needs.{needs}
 use denote.Ref.{now}
+use mathlib.Core.List.{_∷_}
 use lib.ListN.{drop}
 use Rattle.fields.specs.Bytes.{Bytes, AllBytes, part, num}
 use Rattle.fields.specs.declared.Verdict.the-variants.{Passes}
-use Rattle.fields.proofs.ByteLaws.{num-part-lt}
-use Rattle.records.specs.Records.{places, walkEnd, sizeOf}
-use Rattle.records.proofs.RecordLaws.{walkEnd-step, walk-grows, front-in-size, size-is}
-use Rattle.lasfile.specs.FileChecks.{headerSize, recordCount, pointOffset, recordsEnd, fileVerdict}
-use Rattle.lasfile.proofs.Passed.{passed}
+use Rattle.records.specs.Records.{places, sizeOf}
+use Rattle.records.proofs.RecordLaws.{size-is}
+use Rattle.lasfile.specs.FileChecks.{headerSize, recordCount, fileVerdict}
+use Rattle.lasfile.proofs.Walking.{Walking, begin, one-more, low-place, onwards}
 use Rattle.geokeys.specs.GeoKeys.{first, isProjection, projectionPlace}
 use Rattle.geokeys.specs.Places.{placeIn}
 use Rattle.geokeys.specs.declared.Found.the-variants.{At, Nothing}
@@ -24,52 +24,28 @@ use Rattle.geokeys.proofs.find_projection.Tie as tie
 -- `left` records from `at` on are still to look at
 record Searching (s : Bytes) (id left at : ℕ) : Type 0 where
   same : projectionPlace s id ≡ first (isProjection s id) (places 2 left at s)
-  inside : walkEnd 2 left at s ≤ pointOffset s
-  low : pointOffset s < 2 ^ 32
+  walking : Walking s left at
 
-begin : (s : Bytes) (id left at : ℕ) → AllBytes s → fileVerdict s ≡ Passes → at ≡ num (part 94 2 s) → left ≡ num (part 100 4 s) → Searching s id left at
-unfolding headerSize recordCount pointOffset
-begin s id left at bytes passes a l =
-    record {
-      same = unfold projectionPlace headerSize recordCount in rw (a, l);
-      inside = unfold recordsEnd headerSize recordCount in rw (a, l) (passed s passes .walked);
-      low = num-part-lt 96 4 s bytes;
-    }
+start : (s : Bytes) (id left at : ℕ) → AllBytes s → fileVerdict s ≡ Passes → at ≡ num (part 94 2 s) → left ≡ num (part 100 4 s) → Searching s id left at
+unfolding headerSize recordCount projectionPlace
+start s id left at bytes passes a l = record { same = rw (a, l); walking = rw (a, l) (begin s bytes passes) }
 
 module _ (s : Bytes) (id left at : ℕ) (more : 0 < left) (inv : Searching s id left at) where
-  suc-left : left ≡ suc (left - 1)
-  suc-left = omega arith
-
-  -- the record at hand ends before the points
-  ends : at + sizeOf 2 (drop at s) ≤ pointOffset s
-  ends =
-      omega (
-        arith,
-        inv .inside,
-        ap (λ (n : ℕ). walkEnd 2 n at s) suc-left ∙ walkEnd-step 2 (left - 1) at s,
-        walk-grows 2 (left - 1) (at + sizeOf 2 (drop at s)) s,
-      )
-
-  low-place : at + 54 < 2 ^ 32
-  low-place = omega (arith, ends, front-in-size 2 (drop at s), inv .low)
-
-  found : isProjection s id at ≡ true → _≡_ (placeIn (At at)) (projectionPlace s id)
-  unfolding placeIn places
-  found e = sym (inv .same ∙ ap (λ (n : ℕ). first (isProjection s id) (places 2 n at s)) suc-left ∙ first-here (isProjection s id) at _ e)
-
-  same-later : isProjection s id at ≡ false → projectionPlace s id ≡ first (isProjection s id) (places 2 (left - 1) (at + sizeOf 2 (drop at s)) s)
+  in-two : projectionPlace s id ≡ first (isProjection s id) (at ∷ places 2 (left - 1) (at + sizeOf 2 (drop at s)) s)
   unfolding places
-  same-later other =
-      inv .same ∙ ap (λ (k : ℕ). first (isProjection s id) (places 2 k at s)) suc-left ∙ first-later (isProjection s id) at _ other
+  in-two = inv .same ∙ ap (λ (n : ℕ). first (isProjection s id) (places 2 n at s)) (one-more s left at more (inv .walking))
 
-  onwards : (n : ℕ) → n ≡ num (part (at + 20) 2 s) → isProjection s id at ≡ false → Searching s id (left - 1) (at + (54 + n))
-  onwards n e other =
+  low-enough : at + 54 < 2 ^ 32
+  low-enough = low-place s left at more (inv .walking)
+
+  found : isProjection s id at ≡ true → placeIn (At at) ≡ projectionPlace s id
+  unfolding placeIn
+  found e = sym (in-two ∙ first-here (isProjection s id) at _ e)
+
+  next : (n : ℕ) → n ≡ num (part (at + 20) 2 s) → isProjection s id at ≡ false → Searching s id (left - 1) (at + (54 + n))
+  next n e other =
       rw (size-is s at n e)
-      record {
-        same = same-later other;
-        inside = omega (arith, inv .inside, ap (λ (k : ℕ). walkEnd 2 k at s) suc-left ∙ walkEnd-step 2 (left - 1) at s);
-        low = inv .low;
-      }
+      record { same = in-two ∙ first-later (isProjection s id) at _ other; walking = onwards s left at more (inv .walking) }
 
 ended : (s : Bytes) (id left at : ℕ) → left ≤ 0 → Searching s id left at → placeIn Nothing ≡ projectionPlace s id
 unfolding placeIn places
@@ -90,24 +66,24 @@ number-at-requires-2 c κs = search needs
 
 loop-holds : tie.Need-loop-holds Inv-loop μ-loop
 loop-holds c =
-    begin _ _ _ _ (λ i. omega (arith, c .before .before .shared-slice-known .given i)) (c .before .before .before .pre) (c .before .number-at .ensures .0) (c .number-at2 .ensures .0)
+    start _ _ _ _ (λ i. omega (arith, c .before .before .shared-slice-known .given i)) (c .before .before .before .pre) (c .before .number-at .ensures .0) (c .number-at2 .ensures .0)
 
 is-projection-requires : tie.Need-is-projection-requires Inv-loop μ-loop
 is-projection-requires c κs =
     let l = c .before .loop in
-    omega (arith, low-place _ _ (l .left) (l .at) (omega arith) (l .inv))
+    omega (arith, low-enough _ _ (l .left) (l .at) (omega arith) (l .inv))
 
 returns : tie.Need-returns Inv-loop μ-loop
 returns c =
     let l = c .before .before .before .loop in (
       found _ _ (l .left) (l .at) (omega arith) (l .inv) (sym (c .before .is-projection .ensures) ∙ c .if1 .taken),
-      omega (arith, low-place _ _ (l .left) (l .at) (omega arith) (l .inv)),
+      omega (arith, low-enough _ _ (l .left) (l .at) (omega arith) (l .inv)),
     )
 
 add-number-at : tie.Need-add-number-at Inv-loop μ-loop
 add-number-at c =
     let l = c .before .before .before .loop in
-    omega (arith, low-place _ _ (l .left) (l .at) (omega arith) (l .inv))
+    omega (arith, low-enough _ _ (l .left) (l .at) (omega arith) (l .inv))
 
 number-at-requires-3 : tie.Need-number-at-requires-3 Inv-loop μ-loop
 number-at-requires-3 c κs = search needs
@@ -118,7 +94,7 @@ add-at c = omega arith
 add-at-2 : tie.Need-add-at-2 Inv-loop μ-loop
 add-at-2 c =
     let l = c .before .before .before .before .loop in
-    omega (arith, low-place _ _ (l .left) (l .at) (omega arith) (l .inv))
+    omega (arith, low-enough _ _ (l .left) (l .at) (omega arith) (l .inv))
 
 sub-left : tie.Need-sub-left Inv-loop μ-loop
 sub-left c = omega arith
@@ -129,7 +105,7 @@ loop-less c = omega arith
 loop-again : tie.Need-loop-again Inv-loop μ-loop
 loop-again c =
     let l = c .before .before .before .before .loop in
-    onwards _ _ (l .left) (l .at) (omega arith) (l .inv) _ (c .number-at3 .ensures .0) (sym (c .before .before .is-projection .ensures) ∙ c .before .if1 .left)
+    next _ _ (l .left) (l .at) (omega arith) (l .inv) _ (c .number-at3 .ensures .0) (sym (c .before .before .is-projection .ensures) ∙ c .before .if1 .left)
 
 returns-2 : tie.Need-returns-2 Inv-loop μ-loop
 returns-2 c =
