@@ -1,5 +1,5 @@
 #!/usr/bin/env python3
-"""Writes the sample cards: cards/NAME/in.las, sheet.bin and expected.las.
+"""Writes the sample cards: cards/NAME/in.las, sheet.bin, and what the program is to do with them: expected.las and line.
 
 Plain code written from document 01. It shares nothing with the crates, so expected.las is a second opinion on what
 they release. Run it anywhere: python3 cards/make.py
@@ -168,6 +168,9 @@ def survey():
 for name, (f, sheet) in (("yard", yard()), ("survey", survey())):
     folder = os.path.join(HERE, name)
     os.makedirs(folder, exist_ok=True)
-    for file, content in (("in.las", f), ("sheet.bin", sheet), ("expected.las", release(f, sheet))):
+    released = release(f, sheet)
+    records, points = struct.unpack_from("<I", released, 100)[0], struct.unpack_from("<I", released, 107)[0]
+    line = b"released %d points %d records %d\n" % (len(released), points, records)
+    for file, content in (("in.las", f), ("sheet.bin", sheet), ("expected.las", released), ("line", line)):
         with open(os.path.join(folder, file), "wb") as out:
             out.write(content)
