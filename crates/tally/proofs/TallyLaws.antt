@@ -1,12 +1,10 @@
--- Laws of the tally, over any list of points: its count is theirs, its bins and its bounds are those that the released header has of them; the first twenty
--- bytes of a record decide. Assumes nothing.
+-- Laws of the tally, over any list of points: its count is theirs, its bins and its bounds are those that the released header has of them. Assumes nothing.
 use mathlib.Core.Path.{_≡_, refl, ap, _∙_}
 use Prim.Native.Nat.{ℕ, suc, _+_, _*_, _-_, _%_, _^_, _≤_, _<_}
 use native.Mathlib.Omega.{arith}
 use mathlib.Core.Bool.{Bool, true, false, cond}
 use mathlib.Core.List.{List, [], _∷_, foldl, map}
-use lib.ListN.{length, take, getD}
-use lib.Seq.{getD-take}
+use lib.ListN.{length, getD}
 use lib.Dec.{eqb, ltb}
 use lib.IntN.{ℤ, pos, negsuc}
 use lib.Signed.{ltZ}
@@ -16,7 +14,6 @@ use mir.ValLaws.{toZ-ofZ}
 use borrow.Author.Tests.{ltb-true, ltb-false, lt-ltb, le-ltb, le-leb, lt-leb, ne-eqb}
 use Rattle.fields.specs.Lists.{kept, consIf}
 use Rattle.fields.specs.Bytes.{Bytes, part, num, pieces}
-use Rattle.fields.proofs.ByteLaws.{part-take}
 use Rattle.points.specs.Points.{bit, bits}
 use Rattle.scaling.specs.declared.Scaling.{Scaling}
 use Rattle.scaling.specs.declared.Extremes.{Extremes}
@@ -143,25 +140,6 @@ tally-bounds c [] = unfold noTally boundNumbers zeroBounds in refl
 tally-bounds c (p ∷ ps) =
     let some : eqb (foldl tallied noTally (p ∷ ps) .count) 0 ≡ false = ne-eqb (foldl tallied noTally (p ∷ ps) .count) 0 (λ e. omega (arith, e, tally-count (p ∷ ps))) in
     rw (some, tally-extremes p ps)
-
--- ---- the first twenty bytes decide
-
-module _ (n : ℕ) (p : Bytes) (long : 20 ≤ n) where
-  pub inTable-take : (table : List Bool) → inTable table (take n p) ≡ inTable table p
-  unfolding inTable
-  inTable-take table = rw (getD-take n p 15 0 (omega arith))
-
-  stored-take : (axis : ℕ) → axis ≤ 2 → stored axis (take n p) ≡ stored axis p
-  unfolding stored
-  stored-take axis h = rw (part-take (4 * axis) 4 n p (omega arith))
-
-  return-take : returnOf (take n p) ≡ returnOf p
-  unfolding returnOf
-  return-take = rw (getD-take n p 14 0 (omega arith))
-
-  pub tallied-take : (t : Tally) → tallied t (take n p) ≡ tallied t p
-  unfolding tallied
-  tallied-take t = rw (return-take, stored-take 0 (omega arith), stored-take 1 (omega arith), stored-take 2 (omega arith))
 
 -- ---- a run that holds all the records, and one that does not
 
