@@ -3,8 +3,6 @@ mod output;
 
 ghost use mathlib.Core.Path.{_≡_};
 ghost use lib.ListN.{length};
-ghost use Rattle.fields.specs.Checks.{firstFailing};
-ghost use Rattle.las_release.specs.Inputs.{inputChecks};
 use fields::Verdict;
 use publicpart::Answer;
 
@@ -44,19 +42,6 @@ fn bytes_read(buf: &[u8; 32769], got: isize) -> &[u8] {
     runs::part_at(buf, 0, n)
 }
 
-// 51 for a file that was not opened or read to its end, 50 for a longer one than a file may be. The buffer holds one byte more than that.
-fn input_verdict(is_read: bool, length: usize) -> Verdict
-    ensures { λ r. ⌜ r ≡ firstFailing (inputChecks «is_read» length) ⌝ }
-{
-    if !is_read {
-        return Verdict::Fails(51);
-    }
-    if 32768 < length {
-        return Verdict::Fails(50);
-    }
-    Verdict::Passes
-}
-
 // Releases a file under a sheet. The output is as long as a file may be, so that it is never too short.
 fn run(file: &[u8], sheet: &[u8]) {
     let mut out = [0u8; 32768];
@@ -79,7 +64,7 @@ fn run_on(file: &[u8]) {
     let mut sheet = [0u8; 32769];
     let got = read_file(b"sheet.bin", &mut sheet);
     let bytes = bytes_read(&sheet, got);
-    let verdict = input_verdict(got >= 0, bytes.len());
+    let verdict = inputs::input_verdict(got >= 0, bytes.len());
     match verdict {
         Verdict::Passes => run(file, bytes),
         Verdict::Fails(n) => output::print_refused(n),
@@ -90,7 +75,7 @@ fn main() {
     let mut file = [0u8; 32769];
     let got = read_file(b"in.las", &mut file);
     let bytes = bytes_read(&file, got);
-    let verdict = input_verdict(got >= 0, bytes.len());
+    let verdict = inputs::input_verdict(got >= 0, bytes.len());
     match verdict {
         Verdict::Passes => run_on(bytes),
         Verdict::Fails(n) => output::print_refused(n),

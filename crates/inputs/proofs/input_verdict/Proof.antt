@@ -1,11 +1,11 @@
--- `las_release::input_verdict` meets its contract. Assumes nothing.
+-- `inputs::input_verdict` meets its contract. Assumes nothing.
 use mathlib.Core.Path.{sym, _∙_, subst}
 use lib.Dec.{T}
 use borrow.Author.Tests.{not-true, not-false}
 use Rattle.fields.proofs.CheckLaws.{first-fails, first-clear, all-clear}
-use Rattle.las_release.specs.Inputs.{inputChecks}
-use Rattle.las_release.proofs.input_verdict.Statement.{statement}
-use Rattle.las_release.proofs.input_verdict.Tie as tie
+use Rattle.inputs.specs.Inputs.{inputChecks}
+use Rattle.inputs.proofs.input_verdict.Statement.{statement}
+use Rattle.inputs.proofs.input_verdict.Tie as tie
 
 -- the first test passes
 was-read : (c : tie.Else1) → T (c .before .args .is-read)
