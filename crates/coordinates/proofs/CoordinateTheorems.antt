@@ -19,7 +19,8 @@ use Rattle.fields.specs.Bytes.{Bytes, AllBytes, part, num, bytesOf}
 use Rattle.fields.proofs.ByteLaws.{num-part-lt}
 use Rattle.scaling.specs.declared.Scaling.{Scaling}
 use Rattle.scaling.proofs.ScalingLaws.{double-in}
-use Rattle.scaling.specs.Scaling.{doubleAt, scalingIn, scalingOf, within, goodScale, goodOffset, goodScaling, coordinateOf}
+use Rattle.doubles.specs.Coordinate.{coordinateOf}
+use Rattle.scaling.specs.Scaling.{doubleAt, scalingIn, scalingOf, within, goodScale, goodOffset, goodScaling}
 use Rattle.coordinates.specs.WholeNumbers.{signed, Times}
 use Rattle.coordinates.specs.Axes.{Axis, X, Y, Z, scaleOf, offsetOf, scalePlace, offsetPlace}
 use Rattle.coordinates.specs.Statements.{Stored, FiniteInOrder, ExactCase, Exact, Carried}

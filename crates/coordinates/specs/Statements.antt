@@ -8,7 +8,8 @@ use lib.Signed.{_≤ℤ_}
 use lib.Ieee.{Float, binary64, le, toBits}
 use lib.Ieee.Scale.{finite}
 use Rattle.fields.specs.Bytes.{Bytes, part, num}
-use Rattle.scaling.specs.Scaling.{scalingOf, coordinateOf}
+use Rattle.doubles.specs.Coordinate.{coordinateOf}
+use Rattle.scaling.specs.Scaling.{scalingOf}
 use Rattle.coordinates.specs.WholeNumbers.{Times}
 use Rattle.coordinates.specs.Axes.{Axis, scaleOf, offsetOf, scalePlace, offsetPlace}
 

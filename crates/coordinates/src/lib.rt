@@ -1,1 +1,1 @@
-// Theorems about the coordinates that crate `scaling` computes: proofs/CoordinateTheorems.antt states them. No code.
+// Theorems about the coordinates that crates `doubles` and `scaling` compute: proofs/CoordinateTheorems.antt states them. No code.

@@ -16,7 +16,8 @@ use Rattle.fields.specs.Lists.{All}
 use Rattle.fields.specs.Bytes.{Bytes, part, num}
 use Rattle.fields.proofs.ByteLaws.{num-bytesOf, part-part}
 use Rattle.scaling.specs.declared.Scaling.{Scaling}
-use Rattle.scaling.specs.Scaling.{doubleAt, scalingOf, goodScaling, coordinateOf, coordinateBits, boundsOf}
+use Rattle.doubles.specs.Coordinate.{coordinateOf, coordinateBits}
+use Rattle.scaling.specs.Scaling.{doubleAt, scalingOf, goodScaling, boundsOf}
 use Rattle.coordinates.specs.Axes.{Axis, X, Y, Z, scaleOf, offsetOf}
 use Rattle.coordinates.specs.Statements.{Stored, FiniteInOrder}
 use Rattle.coordinates.proofs.CoordinateTheorems.{passing}

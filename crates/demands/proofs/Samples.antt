@@ -16,7 +16,8 @@ use Rattle.fields.specs.Checks.{fails, failIf, firstFailing, then, numberOf}
 use Rattle.formats.specs.Formats.{formatSize, timePlace, colourPlace, classOf}
 use Rattle.points.specs.Points.{bits, numberAt, pointOf, shape, decodeChecks, fieldsIf, decoded}
 use Rattle.records.specs.Records.{payloadLength, recordOf, sizeOf, places, walk, walkEnd, recordBytes, recordLen, recordsBytes}
-use Rattle.scaling.specs.Scaling.{doubleAt, scalingIn, scalingOf, within, goodScale, goodOffset, goodScaling, coordinateOf, coordinateBits, boundsOf}
+use Rattle.doubles.specs.Coordinate.{coordinateOf, coordinateBits}
+use Rattle.scaling.specs.Scaling.{doubleAt, scalingIn, scalingOf, within, goodScale, goodOffset, goodScaling, boundsOf}
 use Rattle.lasfile.specs.FileChecks.{headerSize, pointOffset, recordCount, format, recordLength, pointCount, recordsEnd, fileVerdict}
 use Rattle.sheet.specs.Sheet.{kind, lineLength, lowest, highest, userID, recordID, firstLine, afterLine, linesFrom, lines, inOrder, lineChecks, linesVerdict, sheetVerdict, containsClass, namesRecord, keepsClass, keepsPoint, keepsRecord}
 use Rattle.publicpart.specs.Bounds.{numbersBytes, upFrom, returnOf, bins, stored, largest, smallest, extremesOf, boundNumbers, bounds}

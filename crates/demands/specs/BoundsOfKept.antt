@@ -8,7 +8,8 @@ use lib.ListN.{length}
 use lib.Ieee.{Float, le}
 use Rattle.fields.specs.Lists.{All, kept, total}
 use Rattle.fields.specs.Bytes.{Bytes, part, num, zeros}
-use Rattle.scaling.specs.Scaling.{doubleAt, scalingOf, coordinateOf}
+use Rattle.doubles.specs.Coordinate.{coordinateOf}
+use Rattle.scaling.specs.Scaling.{doubleAt, scalingOf}
 use Rattle.coordinates.specs.Axes.{Axis, X, Y, Z, scaleOf, offsetOf}
 use Rattle.publicpart.specs.Bounds.{returnOf, stored}
 use Rattle.demands.specs.Complete.{keptPoints}

@@ -13,7 +13,7 @@ use Rattle.fields.specs.Checks.{numberOf}
 use Rattle.points.specs.declared.Decoded.{Decoded}
 use Rattle.points.specs.declared.Decoded.the-variants.{Fields, Refused}
 use Rattle.points.specs.Points.{decoded}
-use Rattle.scaling.specs.Scaling.{coordinateBits}
+use Rattle.doubles.specs.Coordinate.{coordinateBits}
 use Rattle.lasfile.specs.FileChecks.{signature, version, pointOffset, fileVerdict}
 use Rattle.sheet.specs.Sheet.{sheetVerdict, keepsClass}
 use Rattle.publicpart.specs.Bounds.{upFrom}

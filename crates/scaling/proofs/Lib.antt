@@ -1,2 +1,1 @@
-pub mod NanLaws
 pub mod ScalingLaws

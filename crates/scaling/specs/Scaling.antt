@@ -3,8 +3,9 @@
 use Prim.Native.Nat.{ℕ}
 use mathlib.Core.Bool.{Bool, true, false, _&&_}
 use lib.IntN.{ℤ, pos, negsuc}
-use lib.Ieee.{Float, fin, binary64, add, mul, le, ofInt, ofBits, toBits}
+use lib.Ieee.{Float, fin, binary64, le, ofBits}
 use Rattle.fields.specs.Bytes.{Bytes, part, num}
+use Rattle.doubles.specs.Coordinate.{coordinateOf, coordinateBits}
 use Rattle.scaling.specs.declared.Scaling.{Scaling}
 use Rattle.scaling.specs.declared.Coordinates.{Coordinates}
 use Rattle.scaling.specs.declared.Extremes.{Extremes}
@@ -48,10 +49,6 @@ goodScaling c =
     goodScale (c .«x_scale») && goodScale (c .«y_scale») && goodScale (c .«z_scale»)
     && goodOffset (c .«x_offset») && goodOffset (c .«y_offset») && goodOffset (c .«z_offset»)
 
--- stored value times scale, rounded once, plus offset, rounded once, both to nearest with ties to even
-unfoldable pub coordinateOf : ℤ → Float → Float → Float
-coordinateOf stored scale offset = add binary64 (mul binary64 (ofInt binary64 stored) scale) offset
-
 -- the coordinates of a point's stored values
 unfoldable pub coordinatesOf : Scaling → ℤ → ℤ → ℤ → Coordinates
 coordinatesOf c x y z =
@@ -60,10 +57,6 @@ coordinatesOf c x y z =
       y = coordinateOf y (c .«y_scale») (c .«y_offset»);
       z = coordinateOf z (c .«z_scale») (c .«z_offset»);
     }
-
--- the bits of a coordinate
-unfoldable pub coordinateBits : ℤ → Float → Float → ℕ
-coordinateBits stored scale offset = toBits binary64 (coordinateOf stored scale offset)
 
 -- the six bounds by their bits, in the header's order: each is the coordinate of the largest or smallest stored value
 unfoldable pub boundsOf : Scaling → Extremes → Bounds

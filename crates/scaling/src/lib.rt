@@ -1,55 +1,20 @@
 // The six scales and offsets of a header as one record of doubles, and the coordinates and bounds that they give.
 ghost use mathlib.Core.Path.{_≡_};
-ghost use lib.Ieee.{binary64, ofBits, toBits};
-ghost use Rattle.scaling.specs.Scaling.{doubleAt, scalingOf, goodScaling, coordinateOf, coordinatesOf, coordinateBits, boundsOf};
+ghost use Rattle.doubles.specs.Coordinate.{coordinateBits};
+ghost use Rattle.scaling.specs.Scaling.{doubleAt, scalingOf, goodScale, goodOffset, goodScaling, coordinatesOf, boundsOf};
+use doubles::coordinate;
 
-// The double with these bits. Every NaN pattern gives a NaN: `f64::from_bits` is undefined there.
-pub fn double_of(bits: u64) -> f64
-    ensures { λ r. ⌜ r ≡ ofBits binary64 bits ⌝ }
+fn double_at(s: &[u8], at: usize) -> f64
+    ensures { λ r. ⌜ r ≡ doubleAt (now (s .entry)) at ⌝ }
 {
-    if bits % 0x8000_0000_0000_0000 > 0x7ff0_0000_0000_0000 {
-        0.0 / 0.0
-    } else {
-        f64::from_bits(bits)
-    }
-}
-
-// The bits of a double. Of a NaN they are 0x7ff8_0000_0000_0000: `f64::to_bits` is undefined there.
-pub fn bits_of(x: f64) -> u64
-    ensures { λ r. ⌜ r ≡ toBits binary64 x ⌝ }
-{
-    if x != x {
-        0x7ff8_0000_0000_0000
-    } else {
-        f64::to_bits(x)
-    }
-}
-
-// Stored value times scale, rounded once, plus offset, rounded once.
-pub fn coordinate(stored: i32, scale: f64, offset: f64) -> f64
-    ensures { λ r. ⌜ r ≡ coordinateOf stored scale offset ⌝ }
-{
-    (stored as f64) * scale + offset
+    doubles::double_of(fields::numbers::number_at(s, at, 8))
 }
 
 // The bits of a bound: of the coordinate of an extreme.
 fn bound(stored: i32, scale: f64, offset: f64) -> u64
     ensures { λ r. ⌜ r ≡ coordinateBits stored scale offset ⌝ }
 {
-    bits_of(coordinate(stored, scale, offset))
-}
-
-// The coordinate, with scale, offset and result by their bits.
-pub fn coordinate_bits(stored: i32, scale: u64, offset: u64) -> u64
-    ensures { λ r. ⌜ r ≡ coordinateBits stored (ofBits binary64 scale) (ofBits binary64 offset) ⌝ }
-{
-    bound(stored, double_of(scale), double_of(offset))
-}
-
-fn double_at(s: &[u8], at: usize) -> f64
-    ensures { λ r. ⌜ r ≡ doubleAt (now (s .entry)) at ⌝ }
-{
-    double_of(fields::numbers::number_at(s, at, 8))
+    doubles::bits_of(coordinate(stored, scale, offset))
 }
 
 // 2^-40
@@ -60,6 +25,18 @@ const HIGHEST_SCALE: f64 = 1048576.0;
 const LOWEST_OFFSET: f64 = -1099511627776.0;
 // 2^40
 const HIGHEST_OFFSET: f64 = 1099511627776.0;
+
+fn good_scale(x: f64) -> bool
+    ensures { λ r. ⌜ r ≡ goodScale x ⌝ }
+{
+    (LOWEST_SCALE <= x) & (x <= HIGHEST_SCALE)
+}
+
+fn good_offset(x: f64) -> bool
+    ensures { λ r. ⌜ r ≡ goodOffset x ⌝ }
+{
+    (LOWEST_OFFSET <= x) & (x <= HIGHEST_OFFSET)
+}
 
 // The scales and offsets of a header.
 pub struct Scaling {
@@ -116,12 +93,12 @@ impl Scaling {
     pub fn is_good(self) -> bool
         ensures { λ r. ⌜ r ≡ goodScaling self ⌝ }
     {
-        ((LOWEST_SCALE <= self.x_scale) & (self.x_scale <= HIGHEST_SCALE))
-            & ((LOWEST_SCALE <= self.y_scale) & (self.y_scale <= HIGHEST_SCALE))
-            & ((LOWEST_SCALE <= self.z_scale) & (self.z_scale <= HIGHEST_SCALE))
-            & ((LOWEST_OFFSET <= self.x_offset) & (self.x_offset <= HIGHEST_OFFSET))
-            & ((LOWEST_OFFSET <= self.y_offset) & (self.y_offset <= HIGHEST_OFFSET))
-            & ((LOWEST_OFFSET <= self.z_offset) & (self.z_offset <= HIGHEST_OFFSET))
+        good_scale(self.x_scale)
+            & good_scale(self.y_scale)
+            & good_scale(self.z_scale)
+            & good_offset(self.x_offset)
+            & good_offset(self.y_offset)
+            & good_offset(self.z_offset)
     }
 
     // The coordinates of a point's three stored values.

@@ -1,5 +1,6 @@
 -- `scaling::Scaling::coordinates` meets its contract. Assumes nothing.
 use borrow.Author.Needs.{needs}
+use mathlib.Core.Path.{refl}
 use mir.Syntax.{w32}
 use mir.ValLaws.{toZ-ofZ}
 use Rattle.scaling.specs.Scaling.{coordinatesOf}
@@ -19,10 +20,15 @@ returns : tie.Need-returns
 unfolding coordinatesOf
 returns c =
     let a = c .before .before .before in
-    let x = toZ-ofZ w32 (a .args .x) (a .fits .x) in
-    let y = toZ-ofZ w32 (a .args .y) (a .fits .y) in
-    let z = toZ-ofZ w32 (a .args .z) (a .fits .z) in
-    cc
+    simp (
+      c .coordinate3 .ensures,
+      c .before .coordinate2 .ensures,
+      c .before .before .coordinate .ensures,
+      toZ-ofZ w32 (a .args .x) (a .fits .x),
+      toZ-ofZ w32 (a .args .y) (a .fits .y),
+      toZ-ofZ w32 (a .args .z) (a .fits .z),
+    )
+    (refl {a = coordinatesOf (a .args .self) (a .args .x) (a .args .y) (a .args .z)})
 
 pub coordinates-spec : {M : Type 1} → statement M
 coordinates-spec =

@@ -1,8 +1,7 @@
 -- `scaling::Scaling::read` meets its contract. Assumes nothing.
 use borrow.Author.Needs.{needs}
-use lib.Dec.{lit≤}
-use Rattle.scaling.specs.Scaling.{scalingIn, scalingOf}
-use Rattle.scaling.proofs.ScalingLaws.{double-in}
+use mathlib.Core.Path.{refl}
+use Rattle.scaling.proofs.ScalingLaws.{scaling-at}
 use Rattle.scaling.proofs.Scaling.read.Statement.{statement}
 use Rattle.scaling.proofs.Scaling.read.Tie as tie
 
@@ -25,16 +24,22 @@ double-at-requires-6 : tie.Need-double-at-requires-6
 double-at-requires-6 c κs = search needs
 
 returns : tie.Need-returns
-unfolding scalingOf scalingIn
 returns c =
-    let s = c .before .before .before .before .before .before .before .args .header .now in
-    let x = double-in s 131 48 0 (lit≤ tt) in
-    let y = double-in s 131 48 8 (lit≤ tt) in
-    let z = double-in s 131 48 16 (lit≤ tt) in
-    let u = double-in s 131 48 24 (lit≤ tt) in
-    let v = double-in s 131 48 32 (lit≤ tt) in
-    let w = double-in s 131 48 40 (lit≤ tt) in
-    cc
+    let b5 = c .before in
+    let b4 = b5 .before in
+    let b3 = b4 .before in
+    let b2 = b3 .before in
+    let b1 = b2 .before in
+    simp (
+      b1 .double-at .ensures,
+      b2 .double-at2 .ensures,
+      b3 .double-at3 .ensures,
+      b4 .double-at4 .ensures,
+      b5 .double-at5 .ensures,
+      c .double-at6 .ensures,
+      scaling-at,
+    )
+    refl
 
 pub read-spec : {M : Type 1} → statement M
 read-spec =

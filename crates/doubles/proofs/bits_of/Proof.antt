@@ -1,10 +1,10 @@
--- `scaling::bits_of` meets its contract. Assumes nothing.
+-- `doubles::bits_of` meets its contract. Assumes nothing.
 use borrow.Author.Needs.{needs}
 use mathlib.Core.Path.{sym, ap}
 use lib.Ieee.{binary64, toBits}
-use Rattle.scaling.proofs.NanLaws.{nan-if-differs, no-nan-if-same}
-use Rattle.scaling.proofs.bits_of.Statement.{statement}
-use Rattle.scaling.proofs.bits_of.Tie as tie
+use Rattle.doubles.proofs.NanLaws.{nan-if-differs, no-nan-if-same}
+use Rattle.doubles.proofs.bits_of.Statement.{statement}
+use Rattle.doubles.proofs.bits_of.Tie as tie
 
 float-to-bits-result : tie.Need-float-to-bits-result
 float-to-bits-result c = no-nan-if-same _ (c .if1 .left)

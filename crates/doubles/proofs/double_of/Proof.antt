@@ -1,10 +1,10 @@
--- `scaling::double_of` meets its contract. Assumes nothing.
+-- `doubles::double_of` meets its contract. Assumes nothing.
 use borrow.Author.Needs.{needs}
 use mathlib.Core.Path.{sym}
 use lib.Ieee.{div, ofBits}
-use Rattle.scaling.proofs.NanLaws.{no-nan-pattern, nan-pattern}
-use Rattle.scaling.proofs.double_of.Statement.{statement}
-use Rattle.scaling.proofs.double_of.Tie as tie
+use Rattle.doubles.proofs.NanLaws.{no-nan-pattern, nan-pattern}
+use Rattle.doubles.proofs.double_of.Statement.{statement}
+use Rattle.doubles.proofs.double_of.Tie as tie
 
 float-from-bits-result : tie.Need-float-from-bits-result
 float-from-bits-result c = no-nan-pattern _ (c .if1 .left)
