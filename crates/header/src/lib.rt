@@ -1,6 +1,6 @@
 // The public header block.
 ghost use mathlib.Core.Path.{_≡_};
-ghost use Rattle.header.specs.Header.{identityOf, creationOf, layoutOf, byReturnOf, statedBounds, headerRead};
+ghost use Rattle.header.specs.Header.{identityOf, creationOf, layoutOf, byReturnOf, statedBounds, headerOf, headerRead};
 use fields::Verdict;
 use fields::numbers::number_at;
 use scaling::Bounds;
@@ -124,19 +124,25 @@ fn stated_bounds(file: &[u8]) -> Bounds
     }
 }
 
+fn header_of(file: &[u8]) -> Header
+    ensures { λ r. ⌜ r ≡ headerOf (now (file .entry)) ⌝ }
+{
+    Header {
+        identity: identity_of(file),
+        creation: creation_of(file),
+        layout: layout_of(file),
+        by_return: by_return_of(file),
+        scaling: Scaling::read(file),
+        bounds: stated_bounds(file),
+    }
+}
+
 // Every field of a file's header, or the number of the first file check that fails.
 pub fn read_header(file: &[u8]) -> HeaderRead
     ensures { λ r. ⌜ r ≡ headerRead (now (file .entry)) ⌝ }
 {
-    match lasfile::check_file(file) {
-        Verdict::Fails(n) => HeaderRead::Refused(n),
-        Verdict::Passes => HeaderRead::Fields(Header {
-            identity: identity_of(file),
-            creation: creation_of(file),
-            layout: layout_of(file),
-            by_return: by_return_of(file),
-            scaling: Scaling::read(file),
-            bounds: stated_bounds(file),
-        }),
+    if let Verdict::Fails(n) = lasfile::check_file(file) {
+        return HeaderRead::Refused(n);
     }
+    HeaderRead::Fields(header_of(file))
 }

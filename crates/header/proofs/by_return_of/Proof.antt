@@ -1,6 +1,7 @@
 -- `header::by_return_of` meets its contract. Assumes nothing.
 use Rattle.header.specs.Header.{byReturnOf}
 use borrow.Author.Needs.{needs}
+use mathlib.Core.Path.{refl}
 use Rattle.header.proofs.by_return_of.Statement.{statement}
 use Rattle.header.proofs.by_return_of.Tie as tie
 
@@ -21,7 +22,19 @@ number-at-requires-5 c κs = search needs
 
 returns : tie.Need-returns
 unfolding byReturnOf
-returns c = cc
+returns c =
+    let b4 = c .before in
+    let b3 = b4 .before in
+    let b2 = b3 .before in
+    let b1 = b2 .before in
+    simp (
+      b1 .number-at .ensures .0,
+      b2 .number-at2 .ensures .0,
+      b3 .number-at3 .ensures .0,
+      b4 .number-at4 .ensures .0,
+      c .number-at5 .ensures .0,
+    )
+    (refl {a = byReturnOf (b1 .before .before .args .file .now)})
 
 pub by-return-of-spec : {M : Type 1} → statement M
 by-return-of-spec =

@@ -2,6 +2,7 @@
 use Rattle.lasfile.specs.FileChecks.{headerSize, pointOffset, recordCount, format, recordLength, pointCount}
 use Rattle.header.specs.Header.{layoutOf}
 use borrow.Author.Needs.{needs}
+use mathlib.Core.Path.{refl}
 use Rattle.header.proofs.layout_of.Statement.{statement}
 use Rattle.header.proofs.layout_of.Tie as tie
 
@@ -25,7 +26,21 @@ number-at-requires-6 c κs = search needs
 
 returns : tie.Need-returns
 unfolding layoutOf headerSize pointOffset recordCount format recordLength pointCount
-returns c = cc
+returns c =
+    let b5 = c .before in
+    let b4 = b5 .before in
+    let b3 = b4 .before in
+    let b2 = b3 .before in
+    let b1 = b2 .before in
+    simp (
+      b1 .number-at .ensures .0,
+      b2 .number-at2 .ensures .0,
+      b3 .number-at3 .ensures .0,
+      b4 .number-at4 .ensures .0,
+      b5 .number-at5 .ensures .0,
+      c .number-at6 .ensures .0,
+    )
+    (refl {a = layoutOf (b1 .before .before .args .file .now)})
 
 pub layout-of-spec : {M : Type 1} → statement M
 layout-of-spec =

@@ -1,6 +1,7 @@
 -- `header::stated_bounds` meets its contract. Assumes nothing.
 use Rattle.header.specs.Header.{statedBounds}
 use borrow.Author.Needs.{needs}
+use mathlib.Core.Path.{refl}
 use Rattle.header.proofs.stated_bounds.Statement.{statement}
 use Rattle.header.proofs.stated_bounds.Tie as tie
 
@@ -24,7 +25,21 @@ number-at-requires-6 c κs = search needs
 
 returns : tie.Need-returns
 unfolding statedBounds
-returns c = cc
+returns c =
+    let b5 = c .before in
+    let b4 = b5 .before in
+    let b3 = b4 .before in
+    let b2 = b3 .before in
+    let b1 = b2 .before in
+    simp (
+      b1 .number-at .ensures .0,
+      b2 .number-at2 .ensures .0,
+      b3 .number-at3 .ensures .0,
+      b4 .number-at4 .ensures .0,
+      b5 .number-at5 .ensures .0,
+      c .number-at6 .ensures .0,
+    )
+    (refl {a = statedBounds (b1 .before .before .args .file .now)})
 
 pub stated-bounds-spec : {M : Type 1} → statement M
 stated-bounds-spec =
