@@ -1,5 +1,8 @@
 // The public header block.
 ghost use mathlib.Core.Path.{_≡_};
+ghost use lib.ListN.{length};
+ghost use Rattle.fields.specs.Bytes.{part};
+ghost use Rattle.fields.specs.Text.{cut};
 ghost use Rattle.header.specs.Header.{identityOf, creationOf, layoutOf, byReturnOf, statedBounds, headerOf, headerRead};
 use fields::Verdict;
 use fields::numbers::number_at;
@@ -75,12 +78,19 @@ fn identity_of(file: &[u8]) -> Identity
     }
 }
 
+// The length of the cut of the 32-byte text at a place.
+fn text_length(file: &[u8], at: usize) -> u64
+    ensures { λ r. ⌜ r ≡ length (cut (part at 32 (now (file .entry)))) ⌝ }
+{
+    texts::cut_length(runs::part_at(file, at, 32)) as u64
+}
+
 fn creation_of(file: &[u8]) -> Creation
     ensures { λ r. ⌜ r ≡ creationOf (now (file .entry)) ⌝ }
 {
     Creation {
-        system_length: texts::cut_length(runs::part_at(file, 26, 32)) as u64,
-        software_length: texts::cut_length(runs::part_at(file, 58, 32)) as u64,
+        system_length: text_length(file, 26),
+        software_length: text_length(file, 58),
         day: number_at(file, 90, 2),
         year: number_at(file, 92, 2),
     }

@@ -1,48 +1,18 @@
 -- `header::by_return_of` meets its contract. Assumes nothing.
 use Rattle.header.specs.Header.{byReturnOf}
-use borrow.Author.Needs.{needs}
-use mathlib.Core.Path.{refl}
 use Rattle.header.proofs.by_return_of.Statement.{statement}
 use Rattle.header.proofs.by_return_of.Tie as tie
-
-number-at-requires : tie.Need-number-at-requires
-number-at-requires c κs = search needs
-
-number-at-requires-2 : tie.Need-number-at-requires-2
-number-at-requires-2 c κs = search needs
-
-number-at-requires-3 : tie.Need-number-at-requires-3
-number-at-requires-3 c κs = search needs
-
-number-at-requires-4 : tie.Need-number-at-requires-4
-number-at-requires-4 c κs = search needs
-
-number-at-requires-5 : tie.Need-number-at-requires-5
-number-at-requires-5 c κs = search needs
 
 returns : tie.Need-returns
 unfolding byReturnOf
 returns c =
-    let b4 = c .before in
-    let b3 = b4 .before in
-    let b2 = b3 .before in
-    let b1 = b2 .before in
-    simp (
-      b1 .number-at .ensures .0,
-      b2 .number-at2 .ensures .0,
-      b3 .number-at3 .ensures .0,
-      b4 .number-at4 .ensures .0,
-      c .number-at5 .ensures .0,
-    )
-    (refl {a = byReturnOf (b1 .before .before .args .file .now)})
+    λ i. record {
+      first = c .before .before .before .before .number-at .ensures .0 i;
+      second = c .before .before .before .number-at2 .ensures .0 i;
+      third = c .before .before .number-at3 .ensures .0 i;
+      fourth = c .before .number-at4 .ensures .0 i;
+      fifth = c .number-at5 .ensures .0 i;
+    }
 
 pub by-return-of-spec : {M : Type 1} → statement M
-by-return-of-spec =
-    tie.close
-    (tie.spec
-    number-at-requires
-    number-at-requires-2
-    number-at-requires-3
-    number-at-requires-4
-    number-at-requires-5
-    returns)
+by-return-of-spec = tie.close (tie.spec (λ c κs. tt) (λ c κs. tt) (λ c κs. tt) (λ c κs. tt) (λ c κs. tt) returns)

@@ -1,55 +1,20 @@
 -- `header::layout_of` meets its contract. Assumes nothing.
 use Rattle.lasfile.specs.FileChecks.{headerSize, pointOffset, recordCount, format, recordLength, pointCount}
 use Rattle.header.specs.Header.{layoutOf}
-use borrow.Author.Needs.{needs}
-use mathlib.Core.Path.{refl}
 use Rattle.header.proofs.layout_of.Statement.{statement}
 use Rattle.header.proofs.layout_of.Tie as tie
-
-number-at-requires : tie.Need-number-at-requires
-number-at-requires c κs = search needs
-
-number-at-requires-2 : tie.Need-number-at-requires-2
-number-at-requires-2 c κs = search needs
-
-number-at-requires-3 : tie.Need-number-at-requires-3
-number-at-requires-3 c κs = search needs
-
-number-at-requires-4 : tie.Need-number-at-requires-4
-number-at-requires-4 c κs = search needs
-
-number-at-requires-5 : tie.Need-number-at-requires-5
-number-at-requires-5 c κs = search needs
-
-number-at-requires-6 : tie.Need-number-at-requires-6
-number-at-requires-6 c κs = search needs
 
 returns : tie.Need-returns
 unfolding layoutOf headerSize pointOffset recordCount format recordLength pointCount
 returns c =
-    let b5 = c .before in
-    let b4 = b5 .before in
-    let b3 = b4 .before in
-    let b2 = b3 .before in
-    let b1 = b2 .before in
-    simp (
-      b1 .number-at .ensures .0,
-      b2 .number-at2 .ensures .0,
-      b3 .number-at3 .ensures .0,
-      b4 .number-at4 .ensures .0,
-      b5 .number-at5 .ensures .0,
-      c .number-at6 .ensures .0,
-    )
-    (refl {a = layoutOf (b1 .before .before .args .file .now)})
+    λ i. record {
+      «header_size» = c .before .before .before .before .before .number-at .ensures .0 i;
+      «point_offset» = c .before .before .before .before .number-at2 .ensures .0 i;
+      «vlr_count» = c .before .before .before .number-at3 .ensures .0 i;
+      «point_format» = c .before .before .number-at4 .ensures .0 i;
+      «record_length» = c .before .number-at5 .ensures .0 i;
+      «point_count» = c .number-at6 .ensures .0 i;
+    }
 
 pub layout-of-spec : {M : Type 1} → statement M
-layout-of-spec =
-    tie.close
-    (tie.spec
-    number-at-requires
-    number-at-requires-2
-    number-at-requires-3
-    number-at-requires-4
-    number-at-requires-5
-    number-at-requires-6
-    returns)
+layout-of-spec = tie.close (tie.spec (λ c κs. tt) (λ c κs. tt) (λ c κs. tt) (λ c κs. tt) (λ c κs. tt) (λ c κs. tt) returns)

@@ -1,29 +1,10 @@
 -- `scaling::Scaling::bounds` meets its contract. Assumes nothing.
-use borrow.Author.Needs.{needs}
 use mathlib.Core.Path.{refl}
 use mir.Syntax.{w32}
 use mir.ValLaws.{toZ-ofZ}
 use Rattle.scaling.specs.Scaling.{boundsOf}
 use Rattle.scaling.proofs.Scaling.bounds.Statement.{statement}
 use Rattle.scaling.proofs.Scaling.bounds.Tie as tie
-
-bound-requires : tie.Need-bound-requires
-bound-requires c κs = search needs
-
-bound-requires-2 : tie.Need-bound-requires-2
-bound-requires-2 c κs = search needs
-
-bound-requires-3 : tie.Need-bound-requires-3
-bound-requires-3 c κs = search needs
-
-bound-requires-4 : tie.Need-bound-requires-4
-bound-requires-4 c κs = search needs
-
-bound-requires-5 : tie.Need-bound-requires-5
-bound-requires-5 c κs = search needs
-
-bound-requires-6 : tie.Need-bound-requires-6
-bound-requires-6 c κs = search needs
 
 returns : tie.Need-returns
 unfolding boundsOf
@@ -55,10 +36,10 @@ pub bounds-spec : {M : Type 1} → statement M
 bounds-spec =
     tie.close
     (tie.spec
-    bound-requires
-    bound-requires-2
-    bound-requires-3
-    bound-requires-4
-    bound-requires-5
-    bound-requires-6
+    (λ c κs. tt)
+    (λ c κs. tt)
+    (λ c κs. tt)
+    (λ c κs. tt)
+    (λ c κs. tt)
+    (λ c κs. tt)
     returns)
