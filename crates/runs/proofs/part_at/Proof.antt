@@ -1,5 +1,5 @@
 -- `runs::part_at` meets its contract. Assumes nothing.
-use mathlib.Core.Path.{_≡_, sym, _∙_}
+use mathlib.Core.Path.{_≡_, sym, ap, _∙_}
 use Prim.Native.Nat.{ℕ, _+_, _-_, _≤_}
 use native.Mathlib.Omega.{arith}
 use lib.ListN.{length, take, drop, length-drop}
@@ -49,7 +49,7 @@ unfolding part
 returns-2 c =
     let a = c .before .before .before .args in
     let e : a .at + a .n - a .at ≡ a .n = omega arith in
-    rw e
+    ap (λ (k : ℕ). take k (drop (a .at) (a .s .now))) e
 
 returns-3 : tie.Need-returns-3
 unfolding part

@@ -15,6 +15,8 @@ use Rattle.records.proofs.RecordLaws.{walkEnd-one, front-in-size}
 use Rattle.lasfile.specs.FileChecks.{headerSize, pointOffset, recordCount, fileVerdict}
 use Rattle.cursor.specs.Steps.{recordPlaces, nextCursor}
 use Rattle.cursor.specs.declared.RecordPlaces.{RecordPlaces}
+use Rattle.cursor.specs.declared.Step.{Step}
+use Rattle.cursor.specs.declared.Step.the-variants.{Record}
 use Rattle.cursor.proofs.StepLaws.{refused-by-file, refused-18, answered}
 use borrow.Author.Needs.{needs}
 use Rattle.cursor.proofs.VlrCursor.step.Statement.{statement}
@@ -38,6 +40,12 @@ ends-by c = leb-true _ _ (sym (ends (c .before)) ∙ not-false _ (c .if3 .left))
 next-place : (s : Bytes) (at : ℕ) (r : RecordPlaces) → r ≡ recordPlaces s at → r .«payload_place» + r .«payload_length» ≡ at + sizeOf 2 (drop at s)
 unfolding recordPlaces sizeOf
 next-place s at r e = rw e (omega arith)
+
+-- a record and the place after it are what is answered
+found : (s : Bytes) (index at : ℕ) (r : RecordPlaces) (next : ℕ) → r ≡ recordPlaces s at → next ≡ at + sizeOf 2 (drop at s)
+    → _≡_ {A = Step} (Record r (record { index = index + 1; position = next })) (Record (recordPlaces s at) (nextCursor s index at))
+unfolding nextCursor
+found s index at r next e f = rw (e, f)
 
 index-below : (s : Bytes) (index : ℕ) → index < recordCount s → T (ltb index (recordCount s))
 index-below s index h = subst T (sym (lt-ltb index (recordCount s) h)) tt
@@ -86,22 +94,20 @@ places-at-requires c κs =
     omega (arith, ends-by c, front-in-size 2 (drop (a .self .position) (now (a .file))), c .before .before .number-at3 .ensures)
 
 add-next : tie.Need-add-next
-unfolding pointOffset
-add-next c =
-    let a = c .before .before .before .before .before .before .before .before .before .before .before .before .before .args in
-    omega (arith, next-place (now (a .file)) (a .self .position) _ (c .before .places-at .ensures), ends-by (c .before .before), c .before .before .before .before .number-at3 .ensures)
+unfolding pointOffset recordPlaces sizeOf
+add-next c = rw (c .before .places-at .ensures) (omega (arith, ends-by (c .before .before), c .before .before .before .before .number-at3 .ensures))
 
 add-t10 : tie.Need-add-t10
 add-t10 c = search needs
 
 returns-5 : tie.Need-returns-5
-unfolding nextCursor recordCount headerSize
+unfolding recordCount headerSize
 returns-5 c =
     let a = c .before .before .before .before .before .before .before .before .before .before .before .before .before .args in
     let places = c .before .places-at .ensures in
     let next = next-place (now (a .file)) (a .self .position) _ places in
     let answer = answered (now (a .file)) (a .self .index) (a .self .position) (passed (c .before .before .before .before .before .before .before .before .before)) (index-below (now (a .file)) (a .self .index) (omega arith), (omega arith, ends-by (c .before .before))) in
-    cc
+    found _ (a .self .index) _ _ _ places next ∙ sym answer
 
 pub step-spec : {M : Type 1} → statement M
 step-spec =
