@@ -24,9 +24,9 @@ pub struct Totals {
 fn put_front(source: &[u8], out: &mut [u8])
     ensures { λ _. ⌜ now (out .exit) ≡ frontStored (carriedOf (now (source .entry))) (now (out .entry)) ⌝ }
 {
-    runs::copy(b"LASF", out, 0);
-    runs::copy(runs::part_at(source, 4, 20), out, 4);
-    runs::copy(b"\x01\x02", out, 24);
+    copying::copy(b"LASF", out, 0);
+    copying::copy(runs::part_at(source, 4, 20), out, 4);
+    copying::copy(b"\x01\x02", out, 24);
     texts::put_text(out, 26, 32, runs::part_at(source, 26, 32));
     texts::put_text(out, 58, 32, runs::part_at(source, 58, 32));
 }
@@ -79,7 +79,7 @@ pub fn put_head(source: &[u8], totals: Totals, out: &mut [u8])
     put_middle(source, totals, out);
     let bins = totals.bins;
     put_bins(bins, out);
-    runs::copy(runs::part_at(source, 131, 48), out, 131);
+    copying::copy(runs::part_at(source, 131, 48), out, 131);
     let bounds = totals.bounds;
     put_bounds(bounds, out);
 }

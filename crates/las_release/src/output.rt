@@ -28,7 +28,7 @@ pub(crate) fn save(bytes: &[u8]) -> bool {
 
 // Puts a text into the line, and answers where the next one starts. The longest line has 87 bytes, so the sum never wraps.
 fn put(line: &mut [u8; 96], at: usize, text: &[u8]) -> usize {
-    runs::copy(text, line, at);
+    copying::copy(text, line, at);
     std::num::wrapping_add_usize(at, text.len())
 }
 

@@ -44,7 +44,7 @@ pub(crate) fn copy_points(
     while 0 < left {
         let class = wide(run[at + 15]);
         if table[class] {
-            runs::copy(runs::part_at(run, at, record_length), out, to);
+            copying::copy(runs::part_at(run, at, record_length), out, to);
             to += record_length;
         }
         at += record_length;

@@ -56,7 +56,7 @@ fn put_record(file: &[u8], at: usize, out: &mut [u8], to: usize)
     fields::numbers::put_number(out, to + 18, 2, number_at(file, at + 18, 2));
     fields::numbers::put_number(out, to + 20, 2, n);
     texts::put_text(out, to + 22, 32, runs::part_at(file, at + 22, 32));
-    runs::copy(runs::part_at(file, at + 54, n as usize), out, to + 54);
+    copying::copy(runs::part_at(file, at + 54, n as usize), out, to + 54);
 }
 
 // Writes the kept records one after the other, directly after the header.

@@ -37,7 +37,7 @@ pub fn put_text(dst: &mut [u8], at: usize, width: usize, text: &[u8])
         return;
     }
     let n = cut_length(text);
-    runs::copy(runs::part_at(text, 0, n), dst, at);
+    copying::copy(runs::part_at(text, 0, n), dst, at);
     if n < width {
         runs::zero(dst, at + n, width - n);
     }

@@ -1,4 +1,4 @@
--- `runs::copy_bytes` meets its contract. The invariant of its loop: `dst` is what it was with the first i bytes pasted in, and is as long as it was.
+-- `copying::copy_bytes` meets its contract. The invariant of its loop: `dst` is what it was with the first i bytes pasted in, and is as long as it was.
 -- Assumes nothing.
 use mathlib.Core.Path.{_≡_, refl, ap, _∙_}
 use mathlib.Core.List.{List}
@@ -6,9 +6,9 @@ use Prim.Native.Nat.{ℕ, _+_, _-_, _≤_}
 use native.Mathlib.Omega.{arith}
 use lib.ListN.{length, getD, set, length-set}
 use lib.Seq.{paste, paste-zero}
-use Rattle.runs.proofs.CopyLaws.{paste-next}
-use Rattle.runs.proofs.copy_bytes.Statement.{statement}
-use Rattle.runs.proofs.copy_bytes.Tie as tie
+use Rattle.copying.proofs.CopyLaws.{paste-next}
+use Rattle.copying.proofs.copy_bytes.Statement.{statement}
+use Rattle.copying.proofs.copy_bytes.Tie as tie
 
 abbrev Inv-loop : tie.InvT-loop
 Inv-loop src n dst₀ at i₀ dst i = (i ≤ n) × (length dst ≡ length dst₀) × (dst ≡ paste dst₀ at src i)

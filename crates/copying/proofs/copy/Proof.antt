@@ -1,4 +1,4 @@
--- `runs::copy` meets its contract. Assumes nothing.
+-- `copying::copy` meets its contract. Assumes nothing.
 use mathlib.Core.Path.{_≡_, sym, _∙_}
 use Prim.Native.Nat.{ℕ, _-_, _≤_, min}
 use native.Mathlib.Omega.{arith}
@@ -7,8 +7,8 @@ use lib.Seq.{paste, sets}
 use Rattle.fields.specs.Bytes.{Bytes}
 use Rattle.fields.proofs.StoreLaws.{sets-out, paste-sets, sets-least}
 use borrow.Author.Needs.{needs}
-use Rattle.runs.proofs.copy.Statement.{statement}
-use Rattle.runs.proofs.copy.Tie as tie
+use Rattle.copying.proofs.copy.Statement.{statement}
+use Rattle.copying.proofs.copy.Tie as tie
 
 -- as many bytes as there is room for
 as-far : (d : Bytes) (at : ℕ) (s : Bytes) (n : ℕ) → at ≤ length d → n ≡ min (length s) (length d - at) → paste d at s n ≡ sets d at s

@@ -1,13 +1,13 @@
--- `runs::copy_16` meets its contract. The first loop's invariant: each byte of the block so far is the source's. The second's: `dst` is what it was with the first k bytes pasted in.
+-- `copying::copy_16` meets its contract. The first loop's invariant: each byte of the block so far is the source's. The second's: `dst` is what it was with the first k bytes pasted in.
 -- Assumes nothing.
 use mathlib.Core.Path.{_≡_, refl, ap, _∙_}
 use Prim.Native.Nat.{ℕ, _+_, _-_, _≤_, _<_}
 use native.Mathlib.Omega.{arith}
 use lib.ListN.{length, drop, getD, set, length-set}
 use lib.Seq.{paste, paste-zero}
-use Rattle.runs.proofs.CopyLaws.{paste-turn, agree-more}
-use Rattle.runs.proofs.copy_16.Statement.{statement}
-use Rattle.runs.proofs.copy_16.Tie as tie
+use Rattle.copying.proofs.CopyLaws.{paste-turn, agree-more}
+use Rattle.copying.proofs.copy_16.Statement.{statement}
+use Rattle.copying.proofs.copy_16.Tie as tie
 
 abbrev Inv-loop : tie.InvT-loop
 Inv-loop src from dst at block₀ j₀ block j = (j ≤ 16) × (length block ≡ 16) × ((k : ℕ) → k < j → getD block k 0 ≡ getD src (from + k) 0)

@@ -1,13 +1,13 @@
--- `runs::copy_blocks` meets its contract. The invariant of its loop: `dst` is what it was with the first i bytes pasted in. The last block is pasted over the end of that.
+-- `copying::copy_blocks` meets its contract. The invariant of its loop: `dst` is what it was with the first i bytes pasted in. The last block is pasted over the end of that.
 -- Assumes nothing.
 use mathlib.Core.Path.{_≡_, refl, ap, _∙_}
 use Prim.Native.Nat.{ℕ, _+_, _-_, _≤_}
 use native.Mathlib.Omega.{arith}
 use lib.ListN.{length}
 use lib.Seq.{paste, paste-zero}
-use Rattle.runs.proofs.CopyLaws.{paste-over}
-use Rattle.runs.proofs.copy_blocks.Statement.{statement}
-use Rattle.runs.proofs.copy_blocks.Tie as tie
+use Rattle.copying.proofs.CopyLaws.{paste-over}
+use Rattle.copying.proofs.copy_blocks.Statement.{statement}
+use Rattle.copying.proofs.copy_blocks.Tie as tie
 
 abbrev Inv-loop : tie.InvT-loop
 Inv-loop src n dst₀ at last i₀ dst i = (i ≤ n) × (length dst ≡ length dst₀) × (dst ≡ paste dst₀ at src i)
