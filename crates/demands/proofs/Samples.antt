@@ -19,7 +19,8 @@ use Rattle.records.specs.Records.{payloadLength, recordOf, sizeOf, places, walk
 use Rattle.doubles.specs.Coordinate.{coordinateOf, coordinateBits}
 use Rattle.scaling.specs.Scaling.{doubleAt, scalingIn, scalingOf, within, goodScale, goodOffset, goodScaling, boundsOf}
 use Rattle.lasfile.specs.FileChecks.{headerSize, pointOffset, recordCount, format, recordLength, pointCount, recordsEnd, fileVerdict}
-use Rattle.sheet.specs.Sheet.{kind, lineLength, lowest, highest, userID, recordID, firstLine, afterLine, linesFrom, lines, inOrder, lineChecks, linesVerdict, sheetVerdict, containsClass, namesRecord, keepsClass, keepsPoint, keepsRecord}
+use Rattle.sheet.specs.Sheet.{kind, lineLength, lowest, highest, userID, recordID, firstLine, afterLine, linesFrom, lines, inOrder, lineChecks, linesVerdict, sheetVerdict}
+use Rattle.keeping.specs.Keeping.{containsClass, namesRecord, keepsClass, keepsPoint, keepsRecord}
 use Rattle.publicpart.specs.Bounds.{numbersBytes, upFrom, returnOf, bins, stored, largest, smallest, extremesOf, boundNumbers, bounds}
 use Rattle.publicpart.specs.Public.{carriedOf, contents, restrict, publicOf}
 use Rattle.publicpart.specs.Head.{headFields}

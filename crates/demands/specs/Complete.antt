@@ -8,7 +8,7 @@ use Rattle.fields.specs.Lists.{kept, total}
 use Rattle.fields.specs.Bytes.{Bytes, zeros}
 use Rattle.records.specs.Records.{Record, recordLen}
 use Rattle.lasfile.specs.FileChecks.{format, recordLength}
-use Rattle.sheet.specs.Sheet.{keepsPoint}
+use Rattle.keeping.specs.Keeping.{keepsPoint}
 use Rattle.publicpart.specs.Public.{carriedOf, contents, keptRecord, publicOf}
 use Rattle.publicpart.specs.Release.{release}
 use Rattle.demands.specs.Terms.{Accepted, OfOutput}

@@ -15,7 +15,8 @@ use Rattle.points.specs.declared.Decoded.the-variants.{Fields, Refused}
 use Rattle.points.specs.Points.{decoded}
 use Rattle.doubles.specs.Coordinate.{coordinateBits}
 use Rattle.lasfile.specs.FileChecks.{signature, version, pointOffset, fileVerdict}
-use Rattle.sheet.specs.Sheet.{sheetVerdict, keepsClass}
+use Rattle.sheet.specs.Sheet.{sheetVerdict}
+use Rattle.keeping.specs.Keeping.{keepsClass}
 use Rattle.publicpart.specs.Bounds.{upFrom}
 use Rattle.publicpart.specs.Release.{Outcome, numbers, release}
 

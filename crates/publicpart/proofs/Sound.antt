@@ -16,7 +16,7 @@ use Rattle.records.proofs.RecordLaws.{SoundRecord, walk-sound, walk-total, leng
 use Rattle.scaling.specs.Scaling.{scalingIn, scalingOf, goodScaling}
 use Rattle.lasfile.specs.FileChecks.{headerSize, pointOffset, recordCount, format, recordLength, pointCount, recordsEnd}
 use Rattle.lasfile.proofs.Passed.{Passed}
-use Rattle.sheet.specs.Sheet.{keepsPoint}
+use Rattle.keeping.specs.Keeping.{keepsPoint}
 use Rattle.publicpart.specs.Public.{Carried, Public, carriedOf, contents, restrict, keptRecord}
 use Rattle.publicpart.specs.Render.{newOffset}
 

@@ -21,7 +21,7 @@ use Rattle.records.specs.Records.{recordLen, recordsBytes}
 use Rattle.records.proofs.RecordLaws.{length-recordsBytes}
 use Rattle.lasfile.specs.FileChecks.{pointOffset, pointCount, recordLength, format, fileVerdict}
 use Rattle.lasfile.proofs.Passed.{passed}
-use Rattle.sheet.specs.Sheet.{keepsPoint}
+use Rattle.keeping.specs.Keeping.{keepsPoint}
 use Rattle.tally.specs.Tally.{inTable, tallied, noTally, keptTally, tallyBounds, binNumbers}
 use Rattle.tally.specs.declared.Tally.{Tally}
 use Rattle.tally.proofs.TallyLaws.{tally-count, tally-bins, tally-bounds, all-where-held}

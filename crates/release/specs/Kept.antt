@@ -10,7 +10,7 @@ use Rattle.fields.specs.Bytes.{Bytes}
 use Rattle.records.specs.Records.{Record, walk, recordLen}
 use Rattle.fields.specs.declared.Verdict.the-variants.{Passes}
 use Rattle.lasfile.specs.FileChecks.{headerSize, recordCount, pointOffset, pointCount, recordLength, fileVerdict}
-use Rattle.sheet.specs.Sheet.{keepsClass}
+use Rattle.keeping.specs.Keeping.{keepsClass}
 use Rattle.tally.specs.Tally.{keptTally}
 use Rattle.tally.specs.declared.Tally.{Tally}
 use Rattle.publicpart.specs.Public.{keptRecord, publicOf}

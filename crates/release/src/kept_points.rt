@@ -6,7 +6,7 @@ ghost use lib.ListN.{length, getD};
 ghost use lib.Seq.{sets};
 ghost use Rattle.fields.specs.Lists.{kept};
 ghost use Rattle.fields.specs.Bytes.{pieces, join};
-ghost use Rattle.sheet.specs.Sheet.{keepsClass};
+ghost use Rattle.keeping.specs.Keeping.{keepsClass};
 ghost use Rattle.tally.specs.Tally.{inTable};
 
 // Which of the 256 classes a sheet keeps: entry c is for class c.
@@ -15,7 +15,7 @@ pub(crate) fn class_table(sheet: &[u8]) -> [bool; 256]
 {
     let mut table = [false; 256];
     for c in 0..256 {
-        let held = sheet::holds_class(sheet, c as u8);
+        let held = keeping::holds_class(sheet, c as u8);
         table[c] = held;
     }
     table

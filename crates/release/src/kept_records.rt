@@ -22,7 +22,7 @@ fn keeps_at(file: &[u8], sheet: &[u8], at: usize) -> bool
     ensures { λ r. ⌜ r ≡ keptRecord (now (sheet .entry)) (recordAt 2 (now (file .entry)) at) ⌝ }
 {
     let id = number_at(file, at + 18, 2) as u16;
-    sheet::holds_record(sheet, runs::part_at(file, at + 2, 16), id)
+    keeping::holds_record(sheet, runs::part_at(file, at + 2, 16), id)
 }
 
 pub(crate) fn measure(file: &[u8], sheet: &[u8]) -> KeptRecords

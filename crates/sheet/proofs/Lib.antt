@@ -1,2 +1,2 @@
-pub mod LineLaws
+mod LineLaws
 pub mod SheetLaws

@@ -1,21 +1,15 @@
--- What a keep sheet says: its lines are the whole of it, what is kept is what some line says, and the samples P3 to P6.
+-- A sheet's lines are the whole of it; the samples P4 to P6, and 65 lines.
 -- Assumes nothing.
-use mathlib.Core.Path.{_≡_, refl, sym, subst}
-use mathlib.Core.Logic.{_↔_}
+use mathlib.Core.Path.{_≡_, refl}
 use Prim.Native.Nat.{ℕ, zero, suc, _≤_}
 use native.Mathlib.Omega.{arith}
-use borrow.Author.Tests.{leb-true, leb-false, eqb-true, le-leb, eq-eqb, ne-eqb}
-use mathlib.Core.Bool.{Bool, true, false, _&&_, _||_, or-true, and-eq-true-iff}
-use mathlib.Core.List.{List, [], _∷_, _++_, List·Memᴰ, List·Memᴰ·head, List·Memᴰ·tail}
-use lib.Dec.{T, leb, eqb}
-use lib.ListN.{length, take, drop, replicate, take-append-drop}
+use mathlib.Core.List.{[], _∷_, _++_}
+use lib.ListN.{length, drop, replicate, take-append-drop}
 use Rattle.fields.specs.declared.Verdict.{Verdict}
 use Rattle.fields.specs.declared.Verdict.the-variants.{Passes, Fails}
-use Rattle.fields.specs.Lists.{some}
 use Rattle.fields.specs.Bytes.{Bytes, part, same, join}
 use Rattle.fields.specs.Checks.{firstFailing, failIf, fails, then}
-use Rattle.fields.proofs.ByteLaws.{same→eq, same-refl}
-use Rattle.sheet.specs.Sheet.{kind, lineLength, lowest, highest, userID, recordID, firstLine, afterLine, linesFrom, lines, inOrder, lineChecks, linesVerdict, sheetVerdict, containsClass, namesRecord, keepsClass, keepsRecord}
+use Rattle.sheet.specs.Sheet.{kind, lineLength, lowest, highest, firstLine, afterLine, linesFrom, lines, inOrder, lineChecks, linesVerdict, sheetVerdict}
 
 -- ---- the lines of a sheet
 
@@ -49,92 +43,6 @@ pub at-most-64 : (s : Bytes) → length (lines s) ≤ 64
 unfolding lines
 at-most-64 s = length-linesFrom 64 s
 
--- ---- what a line says
-
-all-three : (a b c : Bool) → (a && (b && c)) ≡ true → (a ≡ true) × (b ≡ true) × (c ≡ true)
-all-three a b c e =
-    let f : (a ≡ true) × ((b && c) ≡ true) = and-eq-true-iff a (b && c) .0 e in
-    let g : (b ≡ true) × (c ≡ true) = and-eq-true-iff b c .0 (f .1) in
-    (f .0, g .0, g .1)
-
--- a line that contains a class is of kind 1, and the class is from its lowest to its highest
-pub contains-class : (l : Bytes) (c : ℕ) → (containsClass l c ≡ true) ↔ ((kind l ≡ 1) × (lowest l ≤ c) × (c ≤ highest l))
-unfolding containsClass
-contains-class l c = (
-  λ e. let t = all-three (eqb (kind l) 1) (leb (lowest l) c) (leb c (highest l)) e in
-      (eqb-true (kind l) 1 (t .0), leb-true (lowest l) c (t .1), leb-true c (highest l) (t .2)),
-  λ h. rw (eq-eqb (kind l) 1 (h .0), le-leb (lowest l) c (h .1), le-leb c (highest l) (h .2)),
-)
-
-T-true : (b : Bool) → T b → b ≡ true
-T-true true t = refl
-T-true false t = absurd t
-
-same-eq : (x y : Bytes) → same x y ≡ true → x ≡ y
-same-eq x y e = same→eq x y (subst T (sym e) tt)
-
-eq-same : (x y : Bytes) → x ≡ y → same x y ≡ true
-eq-same x y e = rw e (T-true (same y y) (same-refl y))
-
--- a line that names a record is of kind 2, with the record's cut user ID and its ID
-pub names-record : (l user : Bytes) (id : ℕ) → (namesRecord l user id ≡ true) ↔ ((kind l ≡ 2) × (userID l ≡ user) × (recordID l ≡ id))
-unfolding namesRecord
-names-record l user id = (
-  λ e. let t = all-three (eqb (kind l) 2) (same (userID l) user) (eqb (recordID l) id) e in
-      (eqb-true (kind l) 2 (t .0), same-eq (userID l) user (t .1), eqb-true (recordID l) id (t .2)),
-  λ h. rw (eq-eqb (kind l) 2 (h .0), eq-same (userID l) user (h .1), eq-eqb (recordID l) id (h .2)),
-)
-
--- ---- what is kept: some line says so
-
--- a line of which P holds
-pub record SomeLine (ls : List Bytes) (P : Bytes → Type 0) : Type 0 where
-  pub line : Bytes
-  pub among : List·Memᴰ line ls
-  pub so : P line
-
-module _ (p : Bytes → Bool) (P : Bytes → Type 0) (says : (l : Bytes) → (p l ≡ true) ↔ P l) where
-  pick : (l : Bytes) (ls : List Bytes) (b : Bool) → p l ≡ b → (b || some p ls) ≡ true → (some p ls ≡ true → SomeLine ls P) → SomeLine (l ∷ ls) P
-  pick l ls true q e later = record { line = l; among = List·Memᴰ·head refl; so = says l .0 q }
-  pick l ls false q e later = let w : SomeLine ls P = later e in record { line = w .line; among = List·Memᴰ·tail (w .among); so = w .so }
-
-  some-line : (ls : List Bytes) → some p ls ≡ true → SomeLine ls P
-  unfolding some
-  some-line [] e = let z : _≡_ {A = ℕ} 0 1 = cc in absurd (omega arith)
-  some-line (l ∷ ls) e = pick l ls (p l) refl e (some-line ls)
-
-  line-some : (l : Bytes) (ls : List Bytes) → List·Memᴰ l ls → p l ≡ true → some p ls ≡ true
-  unfolding some
-  line-some l (x ∷ xs) (List·Memᴰ·head q) e = rw (← q, e)
-  line-some l (x ∷ xs) (List·Memᴰ·tail m) e = rw (line-some l xs m e) (or-true (p x))
-
-  some-says : (ls : List Bytes) → (some p ls ≡ true) ↔ SomeLine ls P
-  some-says ls = (some-line ls, λ w. line-some (w .line) ls (w .among) (says (w .line) .1 (w .so)))
-
--- a class is kept exactly if some kind 1 line of the sheet contains it
-pub keeps-class : (sheet : Bytes) (c : ℕ) → (keepsClass sheet c ≡ true) ↔ SomeLine (lines sheet) (λ l. (kind l ≡ 1) × (lowest l ≤ c) × (c ≤ highest l))
-unfolding keepsClass
-keeps-class sheet c = some-says (λ l. containsClass l c) (λ l. (kind l ≡ 1) × (lowest l ≤ c) × (c ≤ highest l)) (λ l. contains-class l c) (lines sheet)
-
--- a record is kept exactly if some kind 2 line of the sheet has its cut user ID and its ID
-pub keeps-record : (sheet user : Bytes) (id : ℕ)
-    → (keepsRecord sheet user id ≡ true) ↔ SomeLine (lines sheet) (λ l. (kind l ≡ 2) × (userID l ≡ user) × (recordID l ≡ id))
-unfolding keepsRecord
-keeps-record sheet user id =
-    some-says (λ l. namesRecord l user id) (λ l. (kind l ≡ 2) × (userID l ≡ user) × (recordID l ≡ id)) (λ l. names-record l user id) (lines sheet)
-
--- what is kept depends on the lines alone
-pub same-lines : (s t : Bytes) → lines s ≡ lines t
-    → ((c : ℕ) → keepsClass s c ≡ keepsClass t c) × ((user : Bytes) (id : ℕ) → keepsRecord s user id ≡ keepsRecord t user id)
-unfolding keepsClass keepsRecord
-same-lines s t e = (λ c. rw e, λ user id. rw e)
-
--- ---- the empty sheet
-
-pub empty : (sheetVerdict [] ≡ Passes) × ((c : ℕ) → keepsClass [] c ≡ false) × ((user : Bytes) (id : ℕ) → keepsRecord [] user id ≡ false)
-unfolding sheetVerdict linesVerdict keepsClass keepsRecord lines linesFrom some
-empty = (refl, λ c. refl, λ user id. refl)
-
 -- ---- the samples of document 01
 
 abbrev pub p3 : Bytes
@@ -148,16 +56,6 @@ p5 = 0x4B ∷ 0x53 ∷ []
 
 abbrev pub p6 : Bytes
 p6 = 0x4B ∷ 0x54 ∷ 0x01 ∷ []
-
-two-alone : (c : ℕ) (a b : Bool) → leb 2 c ≡ a → leb c 2 ≡ b → (a && b || false) ≡ eqb c 2
-two-alone c true true e f = sym (eq-eqb c 2 (omega (arith, leb-true 2 c e, leb-true c 2 f)))
-two-alone c true false e f = sym (ne-eqb c 2 (λ q. omega (arith, leb-false c 2 f)))
-two-alone c false b e f = sym (ne-eqb c 2 (λ q. omega (arith, leb-false 2 c e)))
-
--- P3 passes, and keeps class 2 and nothing else
-pub sample-3 : (sheetVerdict p3 ≡ Passes) × ((c : ℕ) → keepsClass p3 c ≡ eqb c 2) × ((user : Bytes) (id : ℕ) → keepsRecord p3 user id ≡ false)
-unfolding sheetVerdict linesVerdict keepsClass keepsRecord containsClass namesRecord lines linesFrom some firstLine afterLine lineLength kind lowest highest lineChecks inOrder firstFailing failIf fails then same part
-sample-3 = (refl, λ c. two-alone c (leb 2 c) (leb c 2) refl refl, λ user id. refl)
 
 pub samples-4-to-6 : (sheetVerdict p4 ≡ Fails 23) × (sheetVerdict p5 ≡ Fails 22) × (sheetVerdict p6 ≡ Fails 20)
 unfolding sheetVerdict linesVerdict afterLine lineLength kind lowest highest lineChecks inOrder firstFailing failIf fails then same part

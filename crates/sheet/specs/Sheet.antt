@@ -1,19 +1,15 @@
--- The keep sheet: its lines, its checks, and what it keeps.
+-- The keep sheet: its lines and its checks.
 -- Assumes nothing.
 use Prim.Native.Nat.{ℕ, zero, suc}
-use mathlib.Core.Bool.{Bool, true, false, not, _||_, _&&_}
+use mathlib.Core.Bool.{Bool, not, _||_}
 use mathlib.Core.List.{List, [], _∷_}
 use lib.ListN.{length, getD, take, drop}
 use lib.Dec.{leb, eqb}
 use Rattle.fields.specs.declared.Verdict.{Verdict}
 use Rattle.fields.specs.declared.Verdict.the-variants.{Passes, Fails}
-use Rattle.fields.specs.Lists.{some}
-use Rattle.fields.specs.Bytes.{Bytes, part, num, same}
+use Rattle.fields.specs.Bytes.{Bytes, part, num}
 use Rattle.fields.specs.Text.{cut}
-use Rattle.formats.specs.Formats.{classOf}
 use Rattle.fields.specs.Checks.{Check, _below_, _differs-from_, not-so, firstFailing, then}
-use Rattle.sheet.specs.declared.Kept.{Kept}
-use Rattle.sheet.specs.declared.Kept.the-variants.{Yes, No, Refused}
 
 -- ---- a line: the bytes 4B 53, a kind byte, and what the kind has
 
@@ -81,28 +77,3 @@ linesVerdict (suc n) (b ∷ bs) = then (firstFailing (lineChecks (b ∷ bs))) (l
 
 unfoldable pub sheetVerdict : Bytes → Verdict
 sheetVerdict = linesVerdict 64
-
--- ---- what a sheet keeps
-
-unfoldable pub containsClass : Bytes → ℕ → Bool
-containsClass l c = eqb (kind l) 1 && (leb (lowest l) c && leb c (highest l))
-
--- a record by its cut user ID and its ID
-unfoldable pub namesRecord : Bytes → Bytes → ℕ → Bool
-namesRecord l user id = eqb (kind l) 2 && (same (userID l) user && eqb (recordID l) id)
-
-unfoldable pub keepsClass : Bytes → ℕ → Bool
-keepsClass sheet c = some (λ l. containsClass l c) (lines sheet)
-
--- a point by its format and bytes: its class is kept
-unfoldable pub keepsPoint : Bytes → ℕ → Bytes → Bool
-keepsPoint sheet f p = keepsClass sheet (classOf f p)
-
-unfoldable pub keepsRecord : Bytes → Bytes → ℕ → Bool
-keepsRecord sheet user id = some (λ l. namesRecord l user id) (lines sheet)
-
--- the answer under a sheet: its number where a check fails, else whether something is kept
-unfoldable pub keptUnder : Verdict → Bool → Kept
-keptUnder (Fails n) kept = Refused n
-keptUnder Passes true = Yes
-keptUnder Passes false = No

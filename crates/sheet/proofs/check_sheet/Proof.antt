@@ -3,7 +3,7 @@ use mathlib.Core.Path.{_≡_, refl, sym, _∙_}
 use native.Mathlib.Omega.{arith}
 use borrow.Author.Needs.{needs}
 use Rattle.sheet.specs.Sheet.{linesVerdict, sheetVerdict}
-use Rattle.sheet.proofs.LineLaws.{within, verdict-here, verdict-next, verdict-full, verdict-end}
+use Rattle.sheet.proofs.LineLaws.{verdict-here, verdict-next, verdict-full, verdict-end}
 use Rattle.sheet.proofs.check_sheet.Statement.{statement}
 use Rattle.sheet.proofs.check_sheet.Tie as tie
 
@@ -37,17 +37,8 @@ returns-2 c =
 enum-told-2 : tie.Need-enum-told-2 Inv-loop μ-loop
 enum-told-2 c = search needs
 
-first-line-requires : tie.Need-first-line-requires Inv-loop μ-loop
-first-line-requires c κs = search needs
-
-sub-rest : tie.Need-sub-rest Inv-loop μ-loop
-sub-rest c = within _ _ (c .first-line .ensures)
-
-part-rest-start : tie.Need-part-rest-start Inv-loop μ-loop
-part-rest-start c = within _ _ (c .first-line .ensures)
-
-part-rest-end : tie.Need-part-rest-end Inv-loop μ-loop
-part-rest-end c = search needs
+after-line-requires : tie.Need-after-line-requires Inv-loop μ-loop
+after-line-requires c κs = search needs
 
 sub-left : tie.Need-sub-left Inv-loop μ-loop
 sub-left c = omega arith
@@ -57,9 +48,9 @@ loop-less c = omega arith
 
 loop-again : tie.Need-loop-again Inv-loop μ-loop
 loop-again c =
-    let l = c .before .before .before .before .before .before .before .loop in
-    let line = c .before .before .before .before .check-line in
-    l .inv ∙ verdict-next (l .left) (l .rest .now) (line .result) _ (omega arith) (omega arith) (line .ensures) (c .before .before .enum-told2 .given .1) (c .before .first-line .ensures)
+    let l = c .before .before .before .before .before .before .loop in
+    let line = c .before .before .before .check-line in
+    l .inv ∙ verdict-next (l .left) (l .rest .now) (line .result) _ (omega arith) (omega arith) (line .ensures) (c .before .enum-told2 .given .1) (c .after-line .ensures)
 
 returns-3 : tie.Need-returns-3 Inv-loop μ-loop
 returns-3 c =
@@ -78,10 +69,7 @@ check-sheet-spec =
     enum-told
     returns-2
     enum-told-2
-    first-line-requires
-    sub-rest
-    part-rest-start
-    part-rest-end
+    after-line-requires
     sub-left
     loop-less
     loop-again

@@ -7,7 +7,7 @@ use borrow.Author.Count.{below-more}
 use borrow.Author.Needs.{needs}
 use lib.ListN.{length, getD, set, length-set}
 use lib.Seq.{getD-set-same, getD-set-other}
-use Rattle.sheet.specs.Sheet.{keepsClass}
+use Rattle.keeping.specs.Keeping.{keepsClass}
 use Rattle.release.proofs.kept_points.class_table.Statement.{statement}
 use Rattle.release.proofs.kept_points.class_table.Tie as tie
 

@@ -2,9 +2,9 @@
 -- Assumes nothing.
 use mathlib.Core.Bool.{Bool}
 use Rattle.fields.specs.Bytes.{Bytes}
-use Rattle.sheet.specs.Sheet.{containsClass, namesRecord}
-use Rattle.sheet.specs.declared.Sought.{Sought}
-use Rattle.sheet.specs.declared.Sought.the-variants.{Class, Record}
+use Rattle.keeping.specs.Keeping.{containsClass, namesRecord}
+use Rattle.keeping.specs.declared.Sought.{Sought}
+use Rattle.keeping.specs.declared.Sought.the-variants.{Class, Record}
 
 -- whether a line keeps what is looked for, with the record's cut user ID
 unfoldable pub lineKeeps : Sought → Bytes → Bytes → Bool

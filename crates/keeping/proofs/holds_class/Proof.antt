@@ -1,9 +1,9 @@
--- `sheet::holds_class` meets its contract. Assumes nothing.
+-- `keeping::holds_class` meets its contract. Assumes nothing.
 use borrow.Author.Needs.{needs}
-use Rattle.sheet.specs.Sheet.{keepsClass}
-use Rattle.sheet.specs.Search.{lineKeeps}
-use Rattle.sheet.proofs.holds_class.Statement.{statement}
-use Rattle.sheet.proofs.holds_class.Tie as tie
+use Rattle.keeping.specs.Keeping.{keepsClass}
+use Rattle.keeping.specs.Search.{lineKeeps}
+use Rattle.keeping.proofs.holds_class.Statement.{statement}
+use Rattle.keeping.proofs.holds_class.Tie as tie
 
 slice-aggregate-some-line-keeps : tie.Need-slice-aggregate-some-line-keeps
 slice-aggregate-some-line-keeps c = search needs

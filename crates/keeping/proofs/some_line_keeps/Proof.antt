@@ -1,15 +1,15 @@
--- `sheet::some_line_keeps` meets its contract. The loop's invariant: whether some line of the sheet passes is whether one of the rest does, where `left` more may begin.
+-- `keeping::some_line_keeps` meets its contract. The loop's invariant: whether some line of the sheet passes is whether one of the rest does, where `left` more may begin.
 -- Assumes nothing.
 use mathlib.Core.Path.{_≡_, refl, sym, _∙_}
 use native.Mathlib.Omega.{arith}
 use borrow.Author.Needs.{needs}
 use Rattle.fields.specs.Lists.{some}
 use Rattle.fields.specs.Text.{cut}
 use Rattle.sheet.specs.Sheet.{lines, linesFrom}
-use Rattle.sheet.specs.Search.{lineKeeps}
-use Rattle.sheet.proofs.LineLaws.{within, some-here, some-next, some-full, some-end}
-use Rattle.sheet.proofs.some_line_keeps.Statement.{statement}
-use Rattle.sheet.proofs.some_line_keeps.Tie as tie
+use Rattle.keeping.specs.Search.{lineKeeps}
+use Rattle.keeping.proofs.SearchLaws.{some-here, some-next, some-full, some-end}
+use Rattle.keeping.proofs.some_line_keeps.Statement.{statement}
+use Rattle.keeping.proofs.some_line_keeps.Tie as tie
 
 abbrev Inv-loop : tie.InvT-loop
 Inv-loop sheet sought user rest₀ left₀ rest left = some (lineKeeps sought (cut user)) (lines sheet) ≡ some (lineKeeps sought (cut user)) (linesFrom left rest)
@@ -38,14 +38,8 @@ returns-2 c =
     let line = c .before .before .first-line in
     sym (l .inv ∙ some-here _ (l .left) (l .rest .now) (line .result .now) (omega arith) (omega arith) (line .ensures) (sym (c .before .line-keeps .ensures) ∙ c .if2 .taken))
 
-sub-rest : tie.Need-sub-rest Inv-loop μ-loop
-sub-rest c = within _ _ (c .before .before .first-line .ensures)
-
-part-rest-start : tie.Need-part-rest-start Inv-loop μ-loop
-part-rest-start c = within _ _ (c .before .before .first-line .ensures)
-
-part-rest-end : tie.Need-part-rest-end Inv-loop μ-loop
-part-rest-end c = search needs
+after-line-requires : tie.Need-after-line-requires Inv-loop μ-loop
+after-line-requires c κs = search needs
 
 sub-left : tie.Need-sub-left Inv-loop μ-loop
 sub-left c = omega arith
@@ -57,7 +51,7 @@ loop-again : tie.Need-loop-again Inv-loop μ-loop
 loop-again c =
     let l = c .before .before .before .before .before .before .loop in
     let line = c .before .before .before .first-line in
-    l .inv ∙ some-next _ (l .left) (l .rest .now) (line .result .now) (omega arith) (omega arith) (line .ensures) (sym (c .before .before .line-keeps .ensures) ∙ c .before .if2 .left)
+    l .inv ∙ some-next _ (l .left) (l .rest .now) (line .result .now) _ (omega arith) (omega arith) (line .ensures) (sym (c .before .before .line-keeps .ensures) ∙ c .before .if2 .left) (c .after-line .ensures)
 
 returns-3 : tie.Need-returns-3 Inv-loop μ-loop
 returns-3 c =
@@ -75,9 +69,7 @@ some-line-keeps-spec =
     first-line-requires
     line-keeps-requires
     returns-2
-    sub-rest
-    part-rest-start
-    part-rest-end
+    after-line-requires
     sub-left
     loop-less
     loop-again

@@ -1,9 +1,9 @@
--- `sheet::holds_record` meets its contract. Assumes nothing.
+-- `keeping::holds_record` meets its contract. Assumes nothing.
 use borrow.Author.Needs.{needs}
-use Rattle.sheet.specs.Sheet.{keepsRecord}
-use Rattle.sheet.specs.Search.{lineKeeps}
-use Rattle.sheet.proofs.holds_record.Statement.{statement}
-use Rattle.sheet.proofs.holds_record.Tie as tie
+use Rattle.keeping.specs.Keeping.{keepsRecord}
+use Rattle.keeping.specs.Search.{lineKeeps}
+use Rattle.keeping.proofs.holds_record.Statement.{statement}
+use Rattle.keeping.proofs.holds_record.Tie as tie
 
 some-line-keeps-requires : tie.Need-some-line-keeps-requires
 some-line-keeps-requires c κs = search needs

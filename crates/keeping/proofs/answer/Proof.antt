@@ -1,8 +1,8 @@
--- `sheet::answer` meets its contract. Assumes nothing.
+-- `keeping::answer` meets its contract. Assumes nothing.
 use borrow.Author.Needs.{needs}
-use Rattle.sheet.specs.Sheet.{keptUnder}
-use Rattle.sheet.proofs.answer.Statement.{statement}
-use Rattle.sheet.proofs.answer.Tie as tie
+use Rattle.keeping.specs.Keeping.{keptUnder}
+use Rattle.keeping.proofs.answer.Statement.{statement}
+use Rattle.keeping.proofs.answer.Tie as tie
 
 enum-known-verdict : tie.Need-enum-known-verdict
 enum-known-verdict c = search needs

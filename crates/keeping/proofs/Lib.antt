@@ -1,0 +1,2 @@
+mod SearchLaws
+pub mod KeepingLaws
