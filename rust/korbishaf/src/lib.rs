@@ -1,9 +1,82 @@
 //! Korbishaf for Rust: readers of LAS 1.2 files (point formats 0 to 3), and releases of what a keep sheet keeps
 //! of them.
 //!
+//! Every function here is a thin, safe wrapper of one in the static library `libcapi.a`, which is proved to do
+//! what its definitions say; [`sys`] has the library's functions themselves. Any bytes may be passed. What
+//! can't be answered is refused with an [`Error`], which has a number and says why in words.
+//!
 //! The library is linked from the folder that the environment variable `KORBISHAF_LIB_DIR` names, else from
 //! the repository's `target/staticlib`, where `rt staticlib capi` writes it.
+//!
+//! # Example
+//!
+//! A file of two points, made here in memory, and a sheet that keeps one of them:
+//!
+//! ```
+//! let mut file = vec![0; 227];
+//! file[..4].copy_from_slice(b"LASF");
+//! file[24..26].copy_from_slice(&[1, 2]); // version 1.2
+//! file[94..96].copy_from_slice(&227u16.to_le_bytes()); // header size
+//! file[96..100].copy_from_slice(&227u32.to_le_bytes()); // offset to points
+//! file[104] = 0; // point format
+//! file[105..107].copy_from_slice(&20u16.to_le_bytes()); // record length
+//! file[107..111].copy_from_slice(&2u32.to_le_bytes()); // number of points
+//! for scale in [131, 139, 147] {
+//!     file[scale..scale + 8].copy_from_slice(&0.5f64.to_le_bytes());
+//! }
+//! for (x, class) in [(-3, 2), (40, 6)] {
+//!     let point = korbishaf::Point { x, class, ..Default::default() };
+//!     let mut record = [0; 20];
+//!     korbishaf::encode(0, 20, &point, &mut record)?;
+//!     file.extend(record);
+//! }
+//!
+//! // One line, which keeps the classes from 2 to 5.
+//! let sheet = [0x4B, 0x53, 1, 2, 5];
+//! let sample = korbishaf::release_to_vec(&file, &sheet)?;
+//! assert_eq!(sample.len(), 247);
+//!
+//! let header = korbishaf::read_header(&sample)?;
+//! assert_eq!(header.point_count, 1);
+//! assert_eq!(header.max[0], -1.5);
+//! let kept: Vec<_> = korbishaf::points(&sample)?.map(|found| found.point).collect();
+//! assert_eq!(kept, [korbishaf::Point { x: -3, class: 2, ..Default::default() }]);
+//! assert_eq!(header.coordinates(&kept[0]), [-1.5, 0.0, 0.0]);
+//! # Ok::<(), korbishaf::Error>(())
+//! ```
 
 #![deny(missing_docs)]
 
+mod error;
+mod geokeys;
+mod header;
+mod points;
+mod records;
+mod release;
+mod sheet;
 pub mod sys;
+
+pub use error::Error;
+pub use geokeys::{GeoKeyValue, geokey};
+pub use header::{Guid, Header, check_file, read_header};
+pub use points::{PlacedPoint, Point, Points, coordinate, decode, encode, point_at, points};
+pub use records::{Record, Records, Step, records, step};
+pub use release::{Released, release, release_to_vec};
+pub use sheet::{check_sheet, class_kept, record_kept};
+
+/// The number of the last change request that is in the library; 0 for the base.
+pub fn level() -> u64 {
+    sys::las_level()
+}
+
+/// The part of a file at a place and of a length that the library answered for that same file, and so in it.
+fn part(file: &[u8], place: u64, length: u64) -> &[u8] {
+    &file[narrow(place)..][..narrow(length)]
+}
+
+/// A number that the library answered, in the type of the field that it was read from.
+fn narrow<T: TryFrom<u64>>(number: u64) -> T {
+    T::try_from(number)
+        .ok()
+        .expect("an answered number fits its field")
+}
