@@ -1,0 +1,63 @@
+#!/usr/bin/env bash
+# Tries the header and the static library as a C caller would: the header as C and as C++, and two programs over the library.
+# Usage: tests/c/run.sh LIBDIR, the folder with libcapi.a; its last line is 'N passed, M failed'.
+set -u
+library=${1:?usage: tests/c/run.sh LIBDIR}/libcapi.a
+here=$(CDPATH= cd -- "$(dirname -- "$0")" && pwd) || exit 1
+include=$here/../../include
+scratch=$(mktemp -d) || exit 1
+trap 'rm -rf "$scratch"' EXIT
+strict=(-Wall -Wextra -Werror -pedantic)
+passed=0
+failed=0
+
+# holds NAME COMMAND..: the command succeeds.
+holds() {
+    local name=$1
+    shift
+    if "$@"; then
+        passed=$((passed + 1))
+    else
+        echo "$name: does not hold"
+        failed=$((failed + 1))
+    fi
+}
+
+# expect NAME LINE PROGRAM: the program prints exactly that, and succeeds.
+expect() {
+    local line
+    if line=$("$3") && [ "$line" = "$2" ]; then
+        passed=$((passed + 1))
+    else
+        echo "$1: expected '$2', got '$line'"
+        failed=$((failed + 1))
+    fi
+}
+
+# add PROGRAM: adds up the program's own last line, 'N passed, M failed'; a program that has none counts as one failure.
+add() {
+    local lines
+    lines=$("$1")
+    if [[ ${lines##*$'\n'} =~ ^([0-9]+)\ passed,\ ([0-9]+)\ failed$ ]]; then
+        passed=$((passed + BASH_REMATCH[1]))
+        failed=$((failed + BASH_REMATCH[2]))
+        [ "${BASH_REMATCH[2]}" -eq 0 ] || echo "$lines"
+    else
+        echo "$1 ended early: $lines"
+        failed=$((failed + 1))
+    fi
+}
+
+holds "the header by itself as C" cc -std=c99 "${strict[@]}" -x c -fsyntax-only "$include/korbishaf.h"
+holds "the header by itself as C++" c++ "${strict[@]}" -x c++ -fsyntax-only "$include/korbishaf.h"
+holds "release.c" cc -std=c99 "${strict[@]}" -I"$include" "$here/release.c" "$library" -o "$scratch/release"
+holds "release.c as C++" \
+    c++ "${strict[@]}" -I"$include" -x c++ "$here/release.c" -x none "$library" -o "$scratch/release-c++"
+holds "interface.c" cc -std=c99 "${strict[@]}" -I"$include" "$here/interface.c" "$library" -o "$scratch/interface"
+line="check 0 points 2 system a system asked 30 247 released 0 247 points 1 records 0 max X 4023000000000000"
+expect "a release" "$line" "$scratch/release"
+expect "a release from C++" "$line" "$scratch/release-c++"
+add "$scratch/interface"
+
+echo "$passed passed, $failed failed"
+[ "$failed" -eq 0 ]
