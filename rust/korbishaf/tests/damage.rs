@@ -1,0 +1,150 @@
+//! The sample cards damaged in every byte, cut at every length: the wrappers agree with each other, and none panics.
+
+use std::fs;
+use std::path::Path;
+
+/// A card's file and sheet.
+fn card(name: &str) -> (Vec<u8>, Vec<u8>) {
+    let folder = Path::new(env!("CARGO_MANIFEST_DIR"))
+        .join("../../cards")
+        .join(name);
+    (
+        fs::read(folder.join("in.las")).unwrap(),
+        fs::read(folder.join("sheet.bin")).unwrap(),
+    )
+}
+
+/// The number of an answer, 0 for a good one.
+fn number<T>(answer: &Result<T, korbishaf::Error>) -> u64 {
+    answer.as_ref().err().map_or(0, |refused| refused.number())
+}
+
+/// What holds of any file and any sheet. Returns the numbers of the two checks.
+fn try_all(file: &[u8], sheet: &[u8]) -> (u64, u64) {
+    let of_file = number(&korbishaf::check_file(file));
+    let of_sheet = number(&korbishaf::check_sheet(sheet));
+    assert_eq!(number(&korbishaf::class_kept(sheet, 2)), of_sheet);
+    assert_eq!(
+        number(&korbishaf::record_kept(sheet, b"LASF_Projection", 34735)),
+        of_sheet
+    );
+
+    let released = korbishaf::release_to_vec(file, sheet);
+    assert_eq!(
+        number(&released),
+        if of_file != 0 { of_file } else { of_sheet }
+    );
+    if let Ok(out) = &released {
+        assert!((227..=file.len()).contains(&out.len()));
+        assert!(korbishaf::release_to_vec(out, sheet).as_ref() == Ok(out));
+    }
+
+    let header = korbishaf::read_header(file);
+    assert_eq!(number(&header), of_file);
+    let Ok(header) = header else {
+        assert_eq!(number(&korbishaf::records(file)), of_file);
+        assert_eq!(number(&korbishaf::step(file, 0, 227)), of_file);
+        assert_eq!(number(&korbishaf::points(file)), of_file);
+        assert_eq!(number(&korbishaf::point_at(file, 0)), of_file);
+        assert_eq!(number(&korbishaf::geokey(file, 1024)), of_file);
+        return (of_file, of_sheet);
+    };
+
+    let records = korbishaf::records(file).unwrap();
+    assert_eq!(records.len(), header.record_count as usize);
+    assert_eq!(records.clone().count(), records.len());
+    if of_sheet == 0 {
+        let kept: Vec<_> = records
+            .filter(|record| {
+                korbishaf::record_kept(sheet, record.user_id, record.record_id).unwrap()
+            })
+            .collect();
+        let out = released.as_ref().unwrap();
+        assert!(korbishaf::records(out).unwrap().eq(kept));
+    }
+
+    let points = korbishaf::points(file).unwrap();
+    assert_eq!(points.len(), header.point_count as usize);
+    for (index, point) in points.clone().enumerate() {
+        assert_eq!(korbishaf::point_at(file, index as u64), Ok(point));
+    }
+    assert_eq!(number(&korbishaf::point_at(file, points.len() as u64)), 11);
+    if of_sheet == 0 {
+        let out = released.as_ref().unwrap();
+        let length = usize::from(header.record_length);
+        let kept: Vec<_> = points
+            .filter(|found| korbishaf::class_kept(sheet, found.point.class).unwrap())
+            .map(|found| &file[found.place..][..length])
+            .collect();
+        let released_points = korbishaf::points(out).unwrap();
+        assert!(
+            released_points
+                .map(|found| &out[found.place..][..length])
+                .eq(kept)
+        );
+    }
+
+    for key in [0, 1024, 1026, 2048, 2049, 2057, 3072, 3073, 65535] {
+        let found = number(&korbishaf::geokey(file, key));
+        assert!(found == 0 || (40..=46).contains(&found), "{found}");
+    }
+    (of_file, of_sheet)
+}
+
+#[test]
+fn cards_as_they_are() {
+    for name in ["survey", "yard"] {
+        let (file, sheet) = card(name);
+        assert_eq!(try_all(&file, &sheet), (0, 0));
+        assert_eq!(try_all(&file, &[]), (0, 0));
+        assert_eq!(try_all(&[], &sheet), (1, 0));
+    }
+}
+
+#[test]
+fn damaged_files() {
+    for name in ["survey", "yard"] {
+        let (file, sheet) = card(name);
+        for place in 0..file.len() {
+            for byte in [
+                0,
+                1,
+                3,
+                0x7F,
+                0x80,
+                0xFF,
+                file[place] ^ 1,
+                file[place] ^ 0x10,
+            ] {
+                let mut file = file.clone();
+                file[place] = byte;
+                try_all(&file, &sheet);
+            }
+        }
+    }
+}
+
+#[test]
+fn cut_files() {
+    for name in ["survey", "yard"] {
+        let (file, sheet) = card(name);
+        for length in 0..file.len() {
+            try_all(&file[..length], &sheet);
+        }
+    }
+}
+
+#[test]
+fn damaged_and_cut_sheets() {
+    for name in ["survey", "yard"] {
+        let (file, sheet) = card(name);
+        for place in 0..sheet.len() {
+            try_all(&file, &sheet[..place]);
+            for byte in [0, 1, 2, 3, 0x7F, 0x80, 0xFF, sheet[place] ^ 1] {
+                let mut sheet = sheet.clone();
+                sheet[place] = byte;
+                try_all(&file, &sheet);
+            }
+        }
+    }
+}
