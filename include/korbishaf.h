@@ -38,6 +38,7 @@
  *    8  a counted variable length record runs past the point offset
  *    9  the points run past the file's end
  *   10  a scale is not from 2^-40 to 2^20, or an offset not from -2^40 to 2^40
+ *       (a NaN fails)
  *       Points and records:
  *   11  point index is not below the number of points
  *   12  bytes or room differ from the record length, that length is below the
@@ -160,6 +161,8 @@ typedef struct {
     uint64_t bounds[6];    /* max X, min X, max Y, min Y, max Z, min Z: bits of doubles */
 } las_header;
 
+/* The functions. Any pointer may be null where the length after it is 0. */
+
 /* The number of the last change request that is in; 0 for the base. */
 uint64_t las_level(void);
 
@@ -184,9 +187,9 @@ las_point las_point_at(const uint8_t *file, uint64_t file_length, uint64_t index
  * the format's size are extra and not looked at. Numbers: 12. */
 las_point las_decode(uint8_t format, uint16_t record_length, const uint8_t *bytes, uint64_t bytes_length);
 
-/* Writes the fields to the room and gives 0, or a number. `room_length` has to be `record_length`; extra
- * bytes in the room stay. Neither `number` nor `place`, nor a field that the format lacks, is looked at.
- * Numbers: 12, 13. */
+/* Writes the fields to the room, which overlaps no other argument, and gives 0, or a number. `room_length` has
+ * to be `record_length`; extra bytes in the room stay. Neither `number` nor `place`, nor a field that the format
+ * lacks, is looked at. Numbers: 12, 13. */
 uint64_t las_encode(uint8_t format, uint16_t record_length, las_point point, uint8_t *room, uint64_t room_length);
 
 /* The coordinate's bits: stored value times scale, rounded once, plus offset, rounded once, both to
@@ -204,9 +207,9 @@ las_kept las_record_kept(const uint8_t *sheet, uint64_t sheet_length, const uint
 /* The value of a GeoKey, by the first key directory and the first such key in it. Numbers: 1 to 10, 40 to 46. */
 las_geokey las_geokey_find(const uint8_t *file, uint64_t file_length, uint16_t key);
 
-/* Writes what the sheet keeps of the file to `out`, as a file of its own, and zeros behind it. An output as
- * long as the file is never too short; an empty one asks for the needed length, by 30.
- * Numbers: 1 to 10, 20 to 24, 30. */
+/* Writes what the sheet keeps of the file to `out`, which overlaps no other argument, as a file of its own, and
+ * zeros behind it. An output as long as the file is never too short; an empty one asks for the needed length,
+ * by 30. Numbers: 1 to 10, 20 to 24, 30. */
 las_released las_release(const uint8_t *file, uint64_t file_length, const uint8_t *sheet, uint64_t sheet_length,
                          uint8_t *out, uint64_t out_length);
 
