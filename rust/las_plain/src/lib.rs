@@ -1,0 +1,40 @@
+//! An independent reader and releaser of LAS 1.2.
+//!
+//! Written from the LAS 1.2 specification, the GeoKey pages and document 01
+//! alone. It shares nothing with the proved crates, so that where both agree,
+//! their definitions are LAS as the world reads it.
+//!
+//! * [`LasFile`] is a file that passes the file checks; [`check_file`] only asks.
+//! * [`Sheet`] is a keep sheet that passes; [`check_sheet`] only asks.
+//! * [`release()`] writes what a sheet leaves of a file.
+//! * [`Point`] is one point's fields, with [`decode`] and [`encode`].
+//!
+//! A [`Refusal`] says why something was not done and has document 01's number.
+
+mod bytes;
+mod file;
+mod format;
+mod geokey;
+mod header;
+mod point;
+mod refusal;
+mod release;
+mod scaling;
+mod sheet;
+mod tally;
+mod vlr;
+
+#[cfg(test)]
+mod sample;
+
+pub use bytes::cut;
+pub use file::{LasFile, check_file, read_header};
+pub use format::PointFormat;
+pub use geokey::GeoValue;
+pub use header::{Header, ProjectId};
+pub use point::{Point, decode, encode};
+pub use refusal::Refusal;
+pub use release::{Released, release};
+pub use scaling::{Bounds, Scaling, coordinate};
+pub use sheet::{Sheet, check_sheet, class_kept, record_kept};
+pub use vlr::{Vlr, Vlrs};
