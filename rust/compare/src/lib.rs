@@ -1,0 +1,18 @@
+//! Compares the proved library, called through its C interface, with
+//! `las_plain`, which was written from the documents alone.
+//!
+//! * [`ours`] calls the library, [`plain`] calls `las_plain`; both give [`answers`].
+//! * [`compared::Compared`] calls both, demands equal answers and equal bytes,
+//!   and remembers which of document 01's numbers were reached.
+//! * [`spec`] builds valid files and sheets from a description; [`damage`]
+//!   changes single fields of them.
+//! * [`lent::Lent`] lends bytes from the middle of a guarded buffer.
+
+pub mod answers;
+pub mod compared;
+pub mod damage;
+pub mod lent;
+pub mod ours;
+pub mod plain;
+pub mod rng;
+pub mod spec;

@@ -1,0 +1,13 @@
+//! Descriptions of files and sheets, from which their bytes are built.
+
+mod file;
+mod geokeys;
+mod record;
+mod sheet;
+mod text;
+
+pub use file::{FileSpec, POINT_SIZES, random_offset, random_point, random_scale};
+pub use geokeys::{directory, keys_of, projection, random_geokeys};
+pub use record::{RECORD_IDS, RecordSpec};
+pub use sheet::{LineSpec, SheetSpec};
+pub use text::{USER_IDS, cut, padded, random_text, with_tail};
