@@ -45,7 +45,7 @@ impl<'a> Header<'a> {
     pub const VERSION: (u8, u8) = (1, 2);
 
     /// Reads the header of a whole file and makes the checks 1 to 7.
-    pub fn read(file: &'a [u8]) -> Result<Self, Refusal> {
+    pub(crate) fn read(file: &'a [u8]) -> Result<Self, Refusal> {
         let block: &[u8; HEADER_SIZE as usize] = file.first_chunk().ok_or(Refusal::FileTooSmall)?;
         if !block.starts_with(b"LASF") {
             return Err(Refusal::NotLas);
@@ -96,7 +96,7 @@ impl<'a> Header<'a> {
     }
 
     /// Writes the header over a block, texts padded with zeros.
-    pub fn write(&self, block: &mut [u8; HEADER_SIZE as usize]) {
+    pub(crate) fn write(&self, block: &mut [u8; HEADER_SIZE as usize]) {
         block.fill(0);
         put(block, 0, b"LASF");
         put(block, 4, &self.file_source_id.to_le_bytes());

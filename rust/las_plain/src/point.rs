@@ -33,7 +33,7 @@ pub struct Point {
 
 impl Point {
     /// Reads the fields of a record that is at least as long as its format.
-    pub fn read(format: PointFormat, record: &[u8]) -> Self {
+    pub(crate) fn read(format: PointFormat, record: &[u8]) -> Self {
         let returns = record[RETURNS_PLACE];
         Self {
             x: i32_at(record, 0),
@@ -56,7 +56,7 @@ impl Point {
     }
 
     /// Writes the fields over a record; bytes beyond the format's size stay.
-    pub fn write(&self, format: PointFormat, record: &mut [u8]) {
+    pub(crate) fn write(&self, format: PointFormat, record: &mut [u8]) {
         put(record, 0, &self.x.to_le_bytes());
         put(record, 4, &self.y.to_le_bytes());
         put(record, 8, &self.z.to_le_bytes());

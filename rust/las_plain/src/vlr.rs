@@ -21,7 +21,7 @@ pub struct Vlr<'a> {
 impl<'a> Vlr<'a> {
     /// The record that begins at `place`, if all of it lies in `area`, the
     /// file up to its points.
-    pub fn read(area: &'a [u8], place: usize) -> Option<Self> {
+    pub(crate) fn read(area: &'a [u8], place: usize) -> Option<Self> {
         let (head, rest) = area.get(place..)?.split_first_chunk::<HEAD>()?;
         Some(Self {
             place,
@@ -58,7 +58,7 @@ impl<'a> Vlr<'a> {
     }
 
     /// Writes the record over `room` of its size: reserved 0, texts padded with zeros.
-    pub fn write(&self, room: &mut [u8]) {
+    pub(crate) fn write(&self, room: &mut [u8]) {
         let (head, payload) = room.split_at_mut(HEAD);
         head.fill(0);
         put(head, 2, self.user_id);
@@ -81,7 +81,7 @@ pub struct Vlrs<'a> {
 
 impl<'a> Vlrs<'a> {
     /// The first `count` records that lie in `area` from `position` on.
-    pub fn new(area: &'a [u8], position: usize, count: u32) -> Self {
+    pub(crate) fn new(area: &'a [u8], position: usize, count: u32) -> Self {
         Self {
             area,
             position,
@@ -90,7 +90,7 @@ impl<'a> Vlrs<'a> {
     }
 
     /// Walks to the end and says whether every counted record fits.
-    pub fn all_fit(mut self) -> bool {
+    pub(crate) fn all_fit(mut self) -> bool {
         self.by_ref().for_each(drop);
         self.left == 0
     }
