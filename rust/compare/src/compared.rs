@@ -139,7 +139,7 @@ impl Compared {
         let other = plain::encode(format, record_length, point, &mut room);
         self.agree(Function::Encode, answer, answer, other);
         self.written(&lent, &room, answer);
-        (answer, room)
+        (answer, lent.content().to_vec())
     }
 
     pub fn coordinate(&mut self, stored: i32, scale: u64, offset: u64) -> u64 {
@@ -211,7 +211,7 @@ impl Compared {
         self.agree(Function::Release, answer.number, answer, other);
         self.untouched(&[&lent_file, &lent_sheet]);
         self.written(&lent_out, &out, answer.number);
-        (answer, out)
+        (answer, lent_out.content().to_vec())
     }
 
     fn agree<A: PartialEq + Debug>(&mut self, function: Function, number: u64, ours: A, plain: A) {

@@ -110,6 +110,7 @@ pub fn spoil(file: &mut Vec<u8>, number: u64) {
 
 /// Bits of a double near the ends of the ranges, of a special one, or of any.
 pub fn random_double_bits(rng: &mut Rng) -> u64 {
+    let any = f64::from_bits(rng.next());
     let double: f64 = rng.pick(&[
         2f64.powi(-40),
         2f64.powi(20),
@@ -121,7 +122,7 @@ pub fn random_double_bits(rng: &mut Rng) -> u64 {
         f64::from_bits(0x7FF0_0000_0000_0001),
         f64::MIN_POSITIVE,
         f64::MAX,
-        f64::from_bits(rng.clone().next()),
+        any,
     ]);
     let near = double
         .to_bits()

@@ -387,7 +387,7 @@ fn random_files_sound_and_damaged_give_equal_answers() {
     for seed in seeds() {
         let mut rng = Rng::new(seed);
         let mut compared = Compared::new();
-        for round in 0..2500 {
+        for round in 0..6000 {
             let file = FileSpec::random(&mut rng).bytes();
             compared.case(format!("seed {seed}, file {round}, sound"));
             assert_eq!(call_all(&mut compared, &file), 0);

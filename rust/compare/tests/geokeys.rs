@@ -295,7 +295,7 @@ fn random_directories_sound_and_damaged_give_equal_answers() {
     for seed in seeds() {
         let mut rng = Rng::new(seed);
         let mut compared = Compared::new();
-        for round in 0..6000 {
+        for round in 0..12_000 {
             let mut spec = FileSpec::random(&mut rng);
             spec.records.splice(0..0, random_geokeys(&mut rng));
             if rng.chance(10) {

@@ -295,7 +295,8 @@ fn coordinates_are_exact_for_powers_of_two_and_whole_offsets() {
         let mut compared = Compared::new();
         for _ in 0..50_000 {
             let k = rng.below(11) as u32;
-            let stored = rng.pick(&[i32::MIN, i32::MAX, 0, -1, rng.clone().next() as i32]);
+            let any = rng.next() as i32;
+            let stored = rng.pick(&[i32::MIN, i32::MAX, 0, -1, any]);
             let whole = match rng.below(4) {
                 0 => 1 << 40,
                 1 => -(1 << 40),

@@ -61,7 +61,7 @@ fn random_files_and_sheets_release_equal_bytes_into_outputs_of_all_lengths() {
     for seed in seeds() {
         let mut rng = Rng::new(seed);
         let mut compared = Compared::new();
-        for round in 0..4000 {
+        for round in 0..8000 {
             let (spec, sheet) = (FileSpec::random(&mut rng), SheetSpec::random(&mut rng));
             compared.case(format!("seed {seed}, file {round}"));
             release_everywhere(&mut compared, &mut rng, &spec, &sheet);

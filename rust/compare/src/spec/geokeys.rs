@@ -91,8 +91,8 @@ fn random_entry(rng: &mut Rng, doubles: usize, text: usize) -> [u16; 4] {
         0..3 => (0, 1, rng.next() as u16),
         3..6 => (DOUBLES, 1, near(rng, doubles)),
         6..9 => {
-            let start = near(rng, rng.clone().from_to(0, text));
-            (TEXTS, near(rng, text.saturating_sub(start.into())), start)
+            let start = rng.from_to(0, text + 1);
+            (TEXTS, near(rng, text.saturating_sub(start)), start as u16)
         }
         _ => (rng.pick(&[1, 34735, 34738, 34767, 65535]), 1, 0),
     };
