@@ -6,7 +6,6 @@ use lib.ListN.{getD}
 use Rattle.fields.specs.Bytes.{Bytes}
 use Rattle.formats.specs.declared.Place.{Place}
 use Rattle.formats.specs.declared.Place.the-variants.{At, Absent}
-use Rattle.formats.specs.declared.Layout.{Layout}
 
 -- "20, 28, 26, 34 bytes for 0, 1, 2, 3"
 unfoldable pub formatSize : ℕ → ℕ
@@ -17,9 +16,6 @@ timePlace f = getD (Absent ∷ At 20 ∷ Absent ∷ At 20 ∷ []) f Absent
 
 unfoldable pub colourPlace : ℕ → Place
 colourPlace f = getD (Absent ∷ Absent ∷ At 20 ∷ At 28 ∷ []) f Absent
-
-unfoldable pub layoutOf : ℕ → Layout
-layoutOf f = record { size = formatSize f; time = timePlace f; colour = colourPlace f }
 
 -- "A point's class is its classification byte", in every format
 unfoldable pub classOf : ℕ → Bytes → ℕ

@@ -1,59 +1,11 @@
 // The four point formats of LAS 1.2: each one's record size, and the places of GPS time and colour in its record.
-ghost use mathlib.Core.Path.{_≡_};
-ghost use Rattle.formats.specs.Formats.{layoutOf};
-
 pub mod format0;
 pub mod format1;
 pub mod format2;
 pub mod format3;
 
-use format0::Format0;
-use format1::Format1;
-use format2::Format2;
-use format3::Format3;
-
 // Where a field stands in a record, or that the format lacks it.
 pub enum Place {
     At(usize),
     Absent,
-}
-
-// A format's record size, and the places of GPS time and colour.
-pub struct Layout {
-    pub size: usize,
-    pub time: Place,
-    pub colour: Place,
-}
-
-// The layout of a format by its number; size 0 and no places above 3.
-pub fn layout_of(format: u8) -> Layout
-    ensures { λ r. ⌜ r ≡ layoutOf format ⌝ }
-{
-    match format {
-        0 => Layout {
-            size: Format0::SIZE,
-            time: Format0::time_place(),
-            colour: Format0::colour_place(),
-        },
-        1 => Layout {
-            size: Format1::SIZE,
-            time: Format1::time_place(),
-            colour: Format1::colour_place(),
-        },
-        2 => Layout {
-            size: Format2::SIZE,
-            time: Format2::time_place(),
-            colour: Format2::colour_place(),
-        },
-        3 => Layout {
-            size: Format3::SIZE,
-            time: Format3::time_place(),
-            colour: Format3::colour_place(),
-        },
-        _ => Layout {
-            size: 0,
-            time: Place::Absent,
-            colour: Place::Absent,
-        },
-    }
 }

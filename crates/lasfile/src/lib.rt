@@ -37,7 +37,7 @@ fn check_points(file: &[u8]) -> Verdict
     if 3 < format {
         return Verdict::Fails(5);
     }
-    let layout = formats::layout_of(format as u8);
+    let layout = layouts::layout_of(format as u8);
     let size = layout.size;
     if (fields::numbers::number_at(file, 105, 2) as usize) < size {
         return Verdict::Fails(6);

@@ -130,7 +130,7 @@ fn shared_of(s: &[u8]) -> Point
 fn has_shape(format: u8, record_length: u16, n: usize) -> bool
     ensures { λ r. ⌜ r ≡ not (fails (shape format «record_length» n)) ⌝ }
 {
-    let layout = formats::layout_of(format);
+    let layout = layouts::layout_of(format);
     let size = layout.size;
     let len = record_length as usize;
     (n == len) & (size <= len) & (format <= 3)
@@ -143,7 +143,7 @@ pub fn decode(format: u8, record_length: u16, bytes: &[u8]) -> Decoded
     if !has_shape(format, record_length, bytes.len()) {
         return Decoded::Refused(12);
     }
-    let layout = formats::layout_of(format);
+    let layout = layouts::layout_of(format);
     let time = layout.time;
     let colour = layout.colour;
     let mut point = shared_of(bytes);
@@ -215,7 +215,7 @@ pub fn encode(format: u8, record_length: u16, point: Point, room: &mut [u8]) -> 
     if (7 < point.return_number) | (7 < point.returns) {
         return Verdict::Fails(13);
     }
-    let layout = formats::layout_of(format);
+    let layout = layouts::layout_of(format);
     let time = layout.time;
     let colour = layout.colour;
     put_shared(room, point);

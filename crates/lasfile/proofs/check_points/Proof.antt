@@ -3,8 +3,9 @@ use mathlib.Core.Path.{_≡_, sym, ap, _∙_}
 use mathlib.Core.Logic.{inl, inr}
 use Prim.Native.Nat.{ℕ}
 use native.Mathlib.Omega.{arith}
-use Rattle.formats.specs.declared.Layout.{Layout}
-use Rattle.formats.specs.Formats.{formatSize, layoutOf}
+use Rattle.layouts.specs.declared.Layout.{Layout}
+use Rattle.formats.specs.Formats.{formatSize}
+use Rattle.layouts.specs.Layouts.{layoutOf}
 use Rattle.fields.proofs.CheckLaws.{first-fails, first-clear, all-clear}
 use Rattle.lasfile.specs.FileChecks.{format, recordLength, pointOffset, headerSize}
 use borrow.Author.Needs.{needs}

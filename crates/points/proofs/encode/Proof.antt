@@ -4,8 +4,8 @@ use denote.Ref.{now}
 use lib.Seq.{sets}
 use Rattle.fields.specs.Bytes.{Bytes}
 use Rattle.fields.specs.declared.Verdict.the-variants.{Passes}
-use Rattle.formats.specs.declared.Layout.{Layout}
-use Rattle.formats.specs.Formats.{layoutOf}
+use Rattle.layouts.specs.declared.Layout.{Layout}
+use Rattle.layouts.specs.Layouts.{layoutOf}
 use Rattle.points.specs.Points.{pointBytes}
 use Rattle.points.proofs.AnswerLaws.{refused-12, refused-13, stored-by}
 use Rattle.points.proofs.LayoutLaws.{all-stored}

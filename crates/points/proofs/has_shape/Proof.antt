@@ -1,8 +1,8 @@
 -- `points::has_shape` meets its contract. Assumes nothing.
 use mathlib.Core.Path.{ap}
 use borrow.Author.Needs.{needs}
-use Rattle.formats.specs.declared.Layout.{Layout}
-use Rattle.formats.specs.Formats.{layoutOf}
+use Rattle.layouts.specs.declared.Layout.{Layout}
+use Rattle.layouts.specs.Layouts.{layoutOf}
 use Rattle.points.proofs.AnswerLaws.{shape-test}
 use Rattle.points.proofs.has_shape.Statement.{statement}
 use Rattle.points.proofs.has_shape.Tie as tie

@@ -1,11 +1,11 @@
--- `formats::layout_of` meets its contract: each arm gives the parts of its own format. Assumes nothing.
+-- `layouts::layout_of` meets its contract: each arm gives the parts of its own format. Assumes nothing.
 use mathlib.Core.Path.{refl, sym}
 use native.Mathlib.Omega.{arith}
 use borrow.Author.Needs.{needs}
 use Rattle.formats.specs.Formats.{formatSize}
-use Rattle.formats.proofs.FormatLaws.{layout-is, above}
-use Rattle.formats.proofs.layout_of.Statement.{statement}
-use Rattle.formats.proofs.layout_of.Tie as tie
+use Rattle.layouts.proofs.PartsLaws.{layout-is, above}
+use Rattle.layouts.proofs.layout_of.Statement.{statement}
+use Rattle.layouts.proofs.layout_of.Tie as tie
 
 time-place-requires : tie.Need-time-place-requires
 time-place-requires c κs = search needs
