@@ -10,8 +10,7 @@ use crate::lent::Lent;
 
 /// The last change request that the library has.
 pub fn level() -> u64 {
-    // SAFETY: it takes nothing.
-    unsafe { sys::las_level() }
+    sys::las_level()
 }
 
 pub fn check_file(file: &mut Lent) -> u64 {
@@ -93,8 +92,7 @@ pub fn encode(format: u8, record_length: u16, point: &Point, room: &mut Lent) ->
 }
 
 pub fn coordinate(stored: i32, scale: u64, offset: u64) -> u64 {
-    // SAFETY: it takes numbers only.
-    unsafe { sys::las_coordinate(stored, scale, offset) }
+    sys::las_coordinate(stored, scale, offset)
 }
 
 pub fn class_kept(sheet: &mut Lent, class: u8) -> Kept {
