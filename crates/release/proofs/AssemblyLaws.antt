@@ -22,9 +22,11 @@ use Rattle.records.proofs.RecordLaws.{length-recordsBytes}
 use Rattle.lasfile.specs.FileChecks.{pointOffset, pointCount, recordLength, format, fileVerdict}
 use Rattle.lasfile.proofs.Passed.{passed}
 use Rattle.keeping.specs.Keeping.{keepsPoint}
-use Rattle.tally.specs.Tally.{inTable, tallied, noTally, keptTally, tallyBounds, binNumbers}
+use Rattle.tally.specs.Tally.{inTable, tallied, noTally, keptTally, binNumbers}
+use Rattle.bounds.specs.Bounds.{tallyBounds}
 use Rattle.tally.specs.declared.Tally.{Tally}
-use Rattle.tally.proofs.TallyLaws.{tally-count, tally-bins, tally-bounds, all-where-held}
+use Rattle.tally.proofs.TallyLaws.{tally-count, tally-bins, all-where-held}
+use Rattle.bounds.proofs.BoundsLaws.{tally-bounds}
 use Rattle.publicpart.specs.Bounds.{bins, bounds, boundNumbers}
 use Rattle.publicpart.specs.Public.{Public, carriedOf, contents, restrict, publicOf}
 use Rattle.publicpart.specs.Head.{Head, headFields}

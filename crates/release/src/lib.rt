@@ -36,7 +36,7 @@ fn write(
     let count = number_at(file, 107, 4) as usize;
     let points = tally.count;
     let bins = tally.bins;
-    let bounds = tally::bounds_of(tally, scaling::Scaling::read(file));
+    let bounds = bounds::bounds_of(tally, scaling::Scaling::read(file));
     let totals = heads::Totals {
         offset: start as u64,
         records: records as u64,

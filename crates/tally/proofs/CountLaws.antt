@@ -11,7 +11,7 @@ use Rattle.points.specs.Points.{bit}
 use Rattle.publicpart.specs.Bounds.{returnOf}
 use Rattle.tally.specs.declared.Bins.{Bins}
 use Rattle.tally.specs.declared.Tally.{Tally}
-use Rattle.tally.specs.Tally.{noTally, tallied, binsWith, BinsUpTo, CountsUpTo}
+use Rattle.tally.specs.Tally.{noTally, tallyWith, tallied, binsWith, BinsUpTo, CountsUpTo}
 
 -- a test as a number, as the code makes it
 pub as-bit : (b : Bool) → boolByte b ≡ bit b
@@ -37,7 +37,7 @@ bins-with b k n m u h =
 
 -- one point more
 pub counts-with : (t : Tally) (p : Bytes) (n m : ℕ) → CountsUpTo t n → n + 1 ≤ m → CountsUpTo (tallied t p) m
-unfolding tallied
+unfolding tallied tallyWith
 counts-with t p n m u h = record { total = omega (arith, u .total); each = bins-with (t .bins) (returnOf p) n m (u .each) h }
 
 -- a bound further up

@@ -1,6 +1,6 @@
--- The loop over a run of records, apart from any code: what holds at the start, after a record that is passed over, after one that is tallied, and at the end.
+-- The loop over a run of records, apart from any code: what holds at the start, after a turn, and at the end.
 -- Assumes nothing.
-use mathlib.Core.Path.{_≡_, refl}
+use mathlib.Core.Path.{_≡_, refl, sym}
 use Prim.Native.Nat.{ℕ, zero, suc, _+_, _-_, _*_, _≤_, _<_}
 use native.Mathlib.Nat.{suc-mul}
 use native.Mathlib.Numerals.{sub-one}
@@ -12,7 +12,7 @@ use lib.Seq.{drop-drop, getD-take, getD-drop}
 use Rattle.fields.specs.Lists.{kept, consIf}
 use Rattle.fields.specs.Bytes.{Bytes, pieces}
 use Rattle.tally.specs.declared.Tally.{Tally}
-use Rattle.tally.specs.Tally.{noTally, tallied, inTable, CountsUpTo}
+use Rattle.tally.specs.Tally.{noTally, tallied, talliedIf, inTable, CountsUpTo}
 use Rattle.tally.proofs.CountLaws.{counts-with, counts-up, counts-none}
 
 pieces-step : (left len : ℕ) (s : Bytes) → 0 < left → pieces left len s ≡ take len s ∷ pieces (left - 1) len (drop len s)
@@ -56,7 +56,7 @@ module _ (table : List Bool) (len : ℕ) (run : Bytes) (count : ℕ) where
     unfolding kept
     rest b e = rw (pieces-step left len (drop at run) more, drop-drop len at run, in-table, e)
 
-    pub passed-over : getD table (getD run (at + 15) 0) false ≡ false → Running table len run count (left - 1) (at + len) t
+    passed-over : getD table (getD run (at + 15) 0) false ≡ false → Running table len run count (left - 1) (at + len) t
     unfolding consIf
     passed-over e =
         record {
@@ -66,7 +66,7 @@ module _ (table : List Bool) (len : ℕ) (run : Bytes) (count : ℕ) where
           same = rw (rest false e) at (r .same);
         }
 
-    pub one-more : getD table (getD run (at + 15) 0) false ≡ true → Running table len run count (left - 1) (at + len) (tallied t (take len (drop at run)))
+    one-more : getD table (getD run (at + 15) 0) false ≡ true → Running table len run count (left - 1) (at + len) (tallied t (take len (drop at run)))
     unfolding consIf
     one-more e =
         record {
@@ -75,3 +75,13 @@ module _ (table : List Bool) (len : ℕ) (run : Bytes) (count : ℕ) where
           counts = counts-with t (take len (drop at run)) (count - left) (count - (left - 1)) (r .counts) (omega (arith, r .few));
           same = rw (rest true e) at (r .same);
         }
+
+    turn : (b : Bool) → getD table (getD run (at + 15) 0) false ≡ b → Running table len run count (left - 1) (at + len) (talliedIf b t (take len (drop at run)))
+    unfolding talliedIf
+    turn true e = one-more e
+    turn false e = passed-over e
+
+    -- a turn of the loop: what the tally becomes by the n bytes of a record, where k says whether they are kept
+    pub turned : (t′ : Tally) (k : Bool) (n : ℕ) → t′ ≡ talliedIf k t (take n (drop at run)) → k ≡ getD table (getD run (at + 15) 0) false → n ≡ len
+        → Running table len run count (left - 1) (at + len) t′
+    turned t′ k n e f g = rw (e, g) (turn k (sym f))

@@ -12,7 +12,8 @@ use Rattle.fields.specs.declared.Verdict.the-variants.{Passes}
 use Rattle.fields.proofs.StoreLaws.{tail-part, lent-back}
 use Rattle.lasfile.specs.FileChecks.{pointOffset, pointCount, recordLength, fileVerdict}
 use Rattle.lasfile.proofs.Passed.{passed}
-use Rattle.tally.specs.Tally.{inTable, tallyBounds}
+use Rattle.tally.specs.Tally.{inTable}
+use Rattle.bounds.specs.Bounds.{tallyBounds}
 use Rattle.release.proofs.AssemblyLaws.{long, held, assembled, start-fits}
 use borrow.Author.Needs.{needs}
 use Rattle.release.proofs.write.Statement.{statement}

@@ -1,11 +1,12 @@
 -- `tally::fresh` meets its contract. Assumes nothing.
 use mathlib.Core.Path.{refl}
-use Rattle.tally.specs.Tally.{noTally, noExtent}
+use Rattle.extremes.specs.Extremes.{noExtremes}
+use Rattle.tally.specs.Tally.{noTally}
 use Rattle.tally.proofs.fresh.Statement.{statement}
 use Rattle.tally.proofs.fresh.Tie as tie
 
 returns : tie.Need-returns
-unfolding noTally noExtent
+unfolding noTally noExtremes
 returns c = refl
 
 pub fresh-spec : {M : Type 1} → statement M

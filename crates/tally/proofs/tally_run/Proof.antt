@@ -1,6 +1,5 @@
 -- `tally::tally_run` meets its contract. The invariant of its loop is `Running`. Assumes nothing.
-use mathlib.Core.Path.{_≡_, ap, _∙_}
-use mathlib.Core.Logic.{⊎-elim}
+use mathlib.Core.Path.{_≡_, refl}
 use Prim.Native.Nat.{ℕ, _+_, _-_, _≤_, _<_}
 use native.Mathlib.Omega.{arith}
 use borrow.Author.Needs.{needs}
@@ -8,9 +7,8 @@ use mir.Syntax.{w64}
 use mir.Val.{Fits}
 use lib.ListN.{getD, length, take, drop, length-drop}
 use lib.Seq.{length-take-le}
-use Rattle.tally.specs.Tally.{tallied}
 use Rattle.tally.proofs.CountLaws.{counts-up}
-use Rattle.tally.proofs.RunLaws.{Running, start, ended, next-in, passed-over, one-more}
+use Rattle.tally.proofs.RunLaws.{Running, start, ended, next-in, turned}
 use Rattle.tally.proofs.tally_run.Statement.{statement}
 use Rattle.tally.proofs.tally_run.Tie as tie
 
@@ -56,26 +54,26 @@ byte-fits h = record { fits = omega arith }
 cast-class : tie.Need-cast-class Inv-loop μ-loop
 cast-class c = byte-fits (byte c _)
 
-array-read-if1 : tie.Need-array-read-if1 Inv-loop μ-loop
-array-read-if1 c = byte c _
+sub-add-if : tie.Need-sub-add-if Inv-loop μ-loop
+sub-add-if c = omega arith
 
-sub-add-point : tie.Need-sub-add-point Inv-loop μ-loop
-sub-add-point c = omega arith
+part-add-if-start : tie.Need-part-add-if-start Inv-loop μ-loop
+part-add-if-start c = omega arith
 
-part-add-point-start : tie.Need-part-add-point-start Inv-loop μ-loop
-part-add-point-start c = omega arith
+part-add-if-end : tie.Need-part-add-if-end Inv-loop μ-loop
+part-add-if-end c = omega (arith, inside (c .before))
 
-part-add-point-end : tie.Need-part-add-point-end Inv-loop μ-loop
-part-add-point-end c = omega (arith, inside (c .before .before))
+array-read-add-if : tie.Need-array-read-add-if Inv-loop μ-loop
+array-read-add-if c = byte (c .before) _
 
-add-point-requires : tie.Need-add-point-requires Inv-loop μ-loop
-add-point-requires c κs =
-    let s = c .before .before .before .before .before .before .before in
+add-if-requires : tie.Need-add-if-requires Inv-loop μ-loop
+add-if-requires c κs =
+    let s = c .before .before .before .before .before .before in
     let a = s .args in
-    let l = c .before .before .before .before .loop in
+    let l = c .before .before .before .loop in
     let n : l .at + a .record-length - l .at ≡ a .record-length = omega arith in
     let long : length (take (a .record-length) (drop (l .at) (a .run .now))) ≡ a .record-length =
-    length-take-le (a .record-length) (drop (l .at) (a .run .now)) (simp length-drop (omega (arith, inside (c .before .before .before)))) in
+    length-take-le (a .record-length) (drop (l .at) (a .run .now)) (simp length-drop (omega (arith, inside (c .before .before)))) in
     (counts-up (l .t) (a .count - l .left) 4294967295 (l .inv .counts) (omega (arith, s .pre .1)), rw (n, long) (s .pre .0))
 
 sub-left : tie.Need-sub-left Inv-loop μ-loop
@@ -86,18 +84,11 @@ loop-less c = omega arith
 
 loop-again : tie.Need-loop-again Inv-loop μ-loop
 loop-again c =
-    let s = c .before .before .before .before .before .before in
+    let s = c .before .before .before .before .before .before .before in
     let a = s .args in
-    let l = c .before .before .before .loop in
-    let more = c .before .before .loop-test .taken in
-    ⊎-elim
-    (λ w.
-    let n : l .at + a .record-length - l .at ≡ a .record-length = omega arith in
-    let t : c .if1 .t ≡ tallied (l .t) (take (a .record-length) (drop (l .at) (a .run .now))) =
-    w .3 ∙ w .2 .ensures ∙ ap (λ (k : ℕ). tallied (l .t) (take k (drop (l .at) (a .run .now)))) n in
-    rw t (one-more (a .t4) (a .record-length) (a .run .now) (a .count) (s .pre .0) (l .left) (l .at) (l .t) (l .inv) more (w .0 .taken)))
-    (λ w. rw (w .1) (passed-over (a .t4) (a .record-length) (a .run .now) (a .count) (s .pre .0) (l .left) (l .at) (l .t) (l .inv) more (w .0 .left)))
-    (c .if1 .came)
+    let l = c .before .before .before .before .loop in
+    turned (a .t4) (a .record-length) (a .run .now) (a .count) (s .pre .0) (l .left) (l .at) (l .t) (l .inv) (c .before .before .before .loop-test .taken)
+    (c .add-if .result) _ (l .at + a .record-length - l .at) (c .add-if .ensures) refl (omega arith)
 
 returns : tie.Need-returns Inv-loop μ-loop
 returns c =
@@ -117,11 +108,11 @@ tally-run-spec =
     add-class
     shared-slice-read-class
     cast-class
-    array-read-if1
-    sub-add-point
-    part-add-point-start
-    part-add-point-end
-    add-point-requires
+    sub-add-if
+    part-add-if-start
+    part-add-if-end
+    array-read-add-if
+    add-if-requires
     sub-left
     loop-less
     loop-again

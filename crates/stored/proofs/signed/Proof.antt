@@ -1,0 +1,29 @@
+-- `stored::signed` meets its contract. Assumes nothing.
+use mathlib.Core.Path.{refl}
+use native.Mathlib.Omega.{arith}
+use mir.Syntax.{w32}
+use borrow.Author.Needs.{needs}
+use Rattle.points.proofs.SignedLaws.{high-fits, high-value}
+use Rattle.stored.proofs.signed.Statement.{statement}
+use Rattle.stored.proofs.signed.Tie as tie
+
+cast-result : tie.Need-cast-result
+cast-result c = search needs
+
+sub-result : tie.Need-sub-result
+sub-result c = search needs
+
+cast-result-2 : tie.Need-cast-result-2
+cast-result-2 c = search needs
+
+sub-result-2 : tie.Need-sub-result-2
+sub-result-2 c = high-fits w32 (c .before .args .bits) 4294967295 refl (c .if1 .left) (omega arith)
+
+returns : tie.Need-returns
+returns c = search needs
+
+returns-2 : tie.Need-returns-2
+returns-2 c = high-value w32 (c .before .args .bits) 4294967295 refl (c .if1 .left) (omega arith)
+
+pub signed-spec : {M : Type 1} → statement M
+signed-spec = tie.close (tie.spec cast-result sub-result cast-result-2 sub-result-2 returns returns-2)

@@ -1,0 +1,21 @@
+-- `tally::with_point` meets its contract. Assumes nothing.
+use Rattle.tally.specs.Tally.{tallyWith}
+use borrow.Author.Needs.{needs}
+use Rattle.tally.proofs.with_point.Statement.{statement}
+use Rattle.tally.proofs.with_point.Tie as tie
+
+add-t6 : tie.Need-add-t6
+add-t6 c = search needs
+
+binned-requires : tie.Need-binned-requires
+binned-requires c κs = search needs
+
+extended-requires : tie.Need-extended-requires
+extended-requires c κs = search needs
+
+returns : tie.Need-returns
+unfolding tallyWith
+returns c = rw (c .before .binned .ensures, c .extended .ensures)
+
+pub with-point-spec : {M : Type 1} → statement M
+with-point-spec = tie.close (tie.spec add-t6 binned-requires extended-requires returns)
