@@ -1,0 +1,30 @@
+-- `answers::kept_of` meets its contract. Assumes nothing.
+use Rattle.answers.specs.Answers.{keptNumbers}
+use borrow.Author.Needs.{needs}
+use Rattle.answers.proofs.kept_of.Statement.{statement}
+use Rattle.answers.proofs.kept_of.Tie as tie
+
+enum-told : tie.Need-enum-told
+enum-told c = search needs
+
+enum-told-2 : tie.Need-enum-told-2
+enum-told-2 c = search needs
+
+enum-known-kept : tie.Need-enum-known-kept
+enum-known-kept c = search needs
+
+returns : tie.Need-returns
+unfolding keptNumbers
+returns c = rw (c .enum-told .given .1)
+
+returns-2 : tie.Need-returns-2
+unfolding keptNumbers
+returns-2 c = rw (c .enum-told2 .given .1)
+
+returns-3 : tie.Need-returns-3
+unfolding keptNumbers
+returns-3 c = rw (c .before .kept .given .1)
+
+pub kept-of-spec : {M : Type 1} → statement M
+kept-of-spec =
+    tie.close (tie.spec enum-told enum-told-2 enum-known-kept returns returns-2 returns-3)

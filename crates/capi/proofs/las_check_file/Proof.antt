@@ -1,0 +1,18 @@
+-- `capi::las_check_file` meets its contract. Assumes nothing.
+use borrow.Author.Needs.{needs}
+use Rattle.capi.specs.Interface.{lasCheckFile}
+use Rattle.capi.proofs.las_check_file.Statement.{statement}
+use Rattle.capi.proofs.las_check_file.Tie as tie
+
+check-file-requires : tie.Need-check-file-requires
+check-file-requires c κs = search needs
+
+number-of-requires : tie.Need-number-of-requires
+number-of-requires c κs = search needs
+
+returns : tie.Need-returns
+unfolding lasCheckFile
+returns c = rw (c .number-of .ensures, c .before .check-file .ensures)
+
+pub las-check-file-spec : {M : Type 1} → statement M
+las-check-file-spec = tie.close (tie.spec check-file-requires number-of-requires returns)

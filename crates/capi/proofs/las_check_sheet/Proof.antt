@@ -1,0 +1,18 @@
+-- `capi::las_check_sheet` meets its contract. Assumes nothing.
+use borrow.Author.Needs.{needs}
+use Rattle.capi.specs.Interface.{lasCheckSheet}
+use Rattle.capi.proofs.las_check_sheet.Statement.{statement}
+use Rattle.capi.proofs.las_check_sheet.Tie as tie
+
+check-sheet-requires : tie.Need-check-sheet-requires
+check-sheet-requires c κs = search needs
+
+number-of-requires : tie.Need-number-of-requires
+number-of-requires c κs = search needs
+
+returns : tie.Need-returns
+unfolding lasCheckSheet
+returns c = rw (c .number-of .ensures, c .before .check-sheet .ensures)
+
+pub las-check-sheet-spec : {M : Type 1} → statement M
+las-check-sheet-spec = tie.close (tie.spec check-sheet-requires number-of-requires returns)

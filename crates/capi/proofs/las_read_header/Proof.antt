@@ -1,0 +1,18 @@
+-- `capi::las_read_header` meets its contract. Assumes nothing.
+use borrow.Author.Needs.{needs}
+use Rattle.capi.specs.Interface.{lasReadHeader}
+use Rattle.capi.proofs.las_read_header.Statement.{statement}
+use Rattle.capi.proofs.las_read_header.Tie as tie
+
+read-header-requires : tie.Need-read-header-requires
+read-header-requires c κs = search needs
+
+header-of-requires : tie.Need-header-of-requires
+header-of-requires c κs = search needs
+
+returns : tie.Need-returns
+unfolding lasReadHeader
+returns c = rw (c .header-of .ensures, c .before .read-header .ensures)
+
+pub las-read-header-spec : {M : Type 1} → statement M
+las-read-header-spec = tie.close (tie.spec read-header-requires header-of-requires returns)

@@ -1,0 +1,18 @@
+-- `capi::las_record_kept` meets its contract. Assumes nothing.
+use borrow.Author.Needs.{needs}
+use Rattle.capi.specs.Interface.{lasRecordKept}
+use Rattle.capi.proofs.las_record_kept.Statement.{statement}
+use Rattle.capi.proofs.las_record_kept.Tie as tie
+
+record-kept-requires : tie.Need-record-kept-requires
+record-kept-requires c κs = search needs
+
+kept-of-requires : tie.Need-kept-of-requires
+kept-of-requires c κs = search needs
+
+returns : tie.Need-returns
+unfolding lasRecordKept
+returns c = rw (c .kept-of .ensures, c .before .record-kept .ensures)
+
+pub las-record-kept-spec : {M : Type 1} → statement M
+las-record-kept-spec = tie.close (tie.spec record-kept-requires kept-of-requires returns)

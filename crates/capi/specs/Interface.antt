@@ -1,0 +1,69 @@
+-- The interface for other languages, in the order of its header file: what each function answers, and the lent bytes afterwards.
+-- Assumes nothing.
+use Prim.Native.Nat.{ℕ}
+use lib.IntN.{ℤ}
+use lib.Ieee.{binary64, ofBits}
+use Rattle.fields.specs.Bytes.{Bytes}
+use Rattle.fields.specs.Text.{cut}
+use Rattle.fields.specs.Checks.{numberOf}
+use Rattle.points.specs.Points.{decoded, encoded}
+use Rattle.scaling.specs.Scaling.{coordinateBits}
+use Rattle.lasfile.specs.FileChecks.{fileVerdict}
+use Rattle.header.specs.Header.{headerRead}
+use Rattle.cursor.specs.Steps.{stepOf}
+use Rattle.onepoint.specs.OnePoint.{pointAtOf}
+use Rattle.sheet.specs.Sheet.{sheetVerdict, keepsClass, keepsRecord, keptUnder}
+use Rattle.geokeys.specs.GeoKeys.{lookup}
+use Rattle.publicpart.specs.Release.{release}
+use Rattle.answers.specs.Answers.{releasedNumbers, keptNumbers}
+use Rattle.answers.specs.declared.«las_released».{«las_released»}
+use Rattle.answers.specs.declared.«las_kept».{«las_kept»}
+use Rattle.recordanswers.specs.RecordAnswers.{recordNumbers, geokeyNumbers}
+use Rattle.recordanswers.specs.declared.«las_record».{«las_record»}
+use Rattle.recordanswers.specs.declared.«las_geokey».{«las_geokey»}
+use Rattle.pointanswers.specs.PointAnswers.{pointNumbers, decodedNumbers, givenPoint}
+use Rattle.pointanswers.specs.declared.«las_point».{«las_point»}
+use Rattle.headeranswers.specs.HeaderAnswers.{headerNumbers}
+use Rattle.headeranswers.specs.declared.«las_header».{«las_header»}
+
+unfoldable pub lasLevel : ℕ
+lasLevel = 0
+
+unfoldable pub lasCheckFile : Bytes → ℕ
+lasCheckFile file = numberOf (fileVerdict file)
+
+unfoldable pub lasCheckSheet : Bytes → ℕ
+lasCheckSheet sheet = numberOf (sheetVerdict sheet)
+
+unfoldable pub lasReadHeader : Bytes → «las_header»
+lasReadHeader file = headerNumbers (headerRead file)
+
+unfoldable pub lasVlrStep : Bytes → ℕ → ℕ → «las_record»
+lasVlrStep file index position = recordNumbers (stepOf file index position)
+
+unfoldable pub lasPointAt : Bytes → ℕ → «las_point»
+lasPointAt file index = pointNumbers (pointAtOf file index)
+
+unfoldable pub lasDecode : ℕ → ℕ → Bytes → «las_point»
+lasDecode format recordLength bytes = decodedNumbers (decoded format recordLength bytes)
+
+-- the number, and the room afterwards
+unfoldable pub lasEncode : ℕ → ℕ → «las_point» → Bytes → ℕ × Bytes
+lasEncode format recordLength point room =
+    (numberOf (encoded format recordLength (givenPoint point) room .0), encoded format recordLength (givenPoint point) room .1)
+
+unfoldable pub lasCoordinate : ℤ → ℕ → ℕ → ℕ
+lasCoordinate stored scale offset = coordinateBits stored (ofBits binary64 scale) (ofBits binary64 offset)
+
+unfoldable pub lasClassKept : Bytes → ℕ → «las_kept»
+lasClassKept sheet class = keptNumbers (keptUnder (sheetVerdict sheet) (keepsClass sheet class))
+
+unfoldable pub lasRecordKept : Bytes → Bytes → ℕ → «las_kept»
+lasRecordKept sheet user id = keptNumbers (keptUnder (sheetVerdict sheet) (keepsRecord sheet (cut user) id))
+
+unfoldable pub lasGeokeyFind : Bytes → ℕ → «las_geokey»
+lasGeokeyFind file key = geokeyNumbers (lookup file key)
+
+-- the numbers, and the output afterwards
+unfoldable pub lasRelease : Bytes → Bytes → Bytes → «las_released» × Bytes
+lasRelease file sheet out = (releasedNumbers (release sheet file out .0), release sheet file out .1)

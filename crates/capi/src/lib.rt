@@ -1,0 +1,132 @@
+// The interface for other languages: each function calls the library's and hands its answer back as numbers. A lent `out` or `room` overlaps no other argument.
+ghost use mathlib.Core.Path.{_≡_};
+ghost use Rattle.capi.specs.Interface.{lasLevel, lasCheckFile, lasCheckSheet, lasReadHeader, lasVlrStep, lasPointAt, lasDecode, lasEncode, lasCoordinate, lasClassKept, lasRecordKept, lasGeokeyFind, lasRelease};
+use answers::kept_of;
+use answers::las_kept;
+use answers::las_released;
+use answers::number_of;
+use answers::released_of;
+use cursor::VlrCursor;
+use geokeys::find;
+use header::read_header;
+use headeranswers::header_of;
+use headeranswers::las_header;
+use lasfile::check_file;
+use onepoint::point_at;
+use pointanswers::decoded_of;
+use pointanswers::given_point;
+use pointanswers::las_point;
+use pointanswers::point_of;
+use points::decode;
+use points::encode;
+use recordanswers::geokey_of;
+use recordanswers::las_geokey;
+use recordanswers::las_record;
+use recordanswers::record_of;
+use release::release;
+use scaling::coordinate_bits;
+use sheet::check_sheet;
+use sheet::class_kept;
+use sheet::record_kept;
+
+// The last change request that is in: 0 for the base.
+#[no_mangle]
+pub extern "C" fn las_level() -> u64
+    ensures { λ r. ⌜ r ≡ lasLevel ⌝ }
+{
+    0
+}
+
+#[no_mangle]
+pub extern "C" fn las_check_file(file: &[u8]) -> u64
+    ensures { λ r. ⌜ r ≡ lasCheckFile (now (file .entry)) ⌝ }
+{
+    number_of(check_file(file))
+}
+
+#[no_mangle]
+pub extern "C" fn las_check_sheet(sheet: &[u8]) -> u64
+    ensures { λ r. ⌜ r ≡ lasCheckSheet (now (sheet .entry)) ⌝ }
+{
+    number_of(check_sheet(sheet))
+}
+
+#[no_mangle]
+pub extern "C" fn las_read_header(file: &[u8]) -> las_header
+    ensures { λ r. ⌜ r ≡ lasReadHeader (now (file .entry)) ⌝ }
+{
+    header_of(read_header(file))
+}
+
+// One step of the walk: first index 0, at the header size.
+#[no_mangle]
+pub extern "C" fn las_vlr_step(file: &[u8], index: usize, position: usize) -> las_record
+    ensures { λ r. ⌜ r ≡ lasVlrStep (now (file .entry)) index position ⌝ }
+{
+    record_of(VlrCursor { index, position }.step(file))
+}
+
+#[no_mangle]
+pub extern "C" fn las_point_at(file: &[u8], index: usize) -> las_point
+    ensures { λ r. ⌜ r ≡ lasPointAt (now (file .entry)) index ⌝ }
+{
+    point_of(point_at(file, index))
+}
+
+#[no_mangle]
+pub extern "C" fn las_decode(format: u8, record_length: u16, bytes: &[u8]) -> las_point
+    ensures { λ r. ⌜ r ≡ lasDecode format «record_length» (now (bytes .entry)) ⌝ }
+{
+    decoded_of(decode(format, record_length, bytes))
+}
+
+// Changes the room only where it answers 0.
+#[no_mangle]
+pub extern "C" fn las_encode(
+    format: u8,
+    record_length: u16,
+    point: las_point,
+    room: &mut [u8],
+) -> u64
+    ensures { λ r. ⌜ (r, now (room .exit)) ≡ lasEncode format «record_length» point (now (room .entry)) ⌝ }
+{
+    number_of(encode(format, record_length, given_point(point), room))
+}
+
+// Scale, offset and result are the 64 bits of doubles, of any pattern.
+#[no_mangle]
+pub extern "C" fn las_coordinate(stored: i32, scale: u64, offset: u64) -> u64
+    ensures { λ r. ⌜ r ≡ lasCoordinate stored scale offset ⌝ }
+{
+    coordinate_bits(stored, scale, offset)
+}
+
+#[no_mangle]
+pub extern "C" fn las_class_kept(sheet: &[u8], class_byte: u8) -> las_kept
+    ensures { λ r. ⌜ r ≡ lasClassKept (now (sheet .entry)) «class_byte» ⌝ }
+{
+    kept_of(class_kept(sheet, class_byte))
+}
+
+// The user ID is any number of bytes, cut as any text.
+#[no_mangle]
+pub extern "C" fn las_record_kept(sheet: &[u8], user: &[u8], record_id: u16) -> las_kept
+    ensures { λ r. ⌜ r ≡ lasRecordKept (now (sheet .entry)) (now (user .entry)) «record_id» ⌝ }
+{
+    kept_of(record_kept(sheet, user, record_id))
+}
+
+#[no_mangle]
+pub extern "C" fn las_geokey_find(file: &[u8], key: u16) -> las_geokey
+    ensures { λ r. ⌜ r ≡ lasGeokeyFind (now (file .entry)) key ⌝ }
+{
+    geokey_of(find(file, key))
+}
+
+// Changes the output only where it answers 0.
+#[no_mangle]
+pub extern "C" fn las_release(file: &[u8], sheet: &[u8], out: &mut [u8]) -> las_released
+    ensures { λ r. ⌜ (r, now (out .exit)) ≡ lasRelease (now (file .entry)) (now (sheet .entry)) (now (out .entry)) ⌝ }
+{
+    released_of(release(file, sheet, out))
+}

@@ -1,0 +1,28 @@
+-- `pointanswers::point_numbers` meets its contract: a signed field that is copied is the one that was given. Assumes nothing.
+use mir.Syntax.{w8, w32}
+use mir.ValLaws.{toZ-ofZ}
+use Rattle.pointanswers.specs.PointAnswers.{pointFields}
+use borrow.Author.Needs.{needs}
+use Rattle.pointanswers.proofs.point_numbers.Statement.{statement}
+use Rattle.pointanswers.proofs.point_numbers.Tie as tie
+
+cast-t4 : tie.Need-cast-t4
+cast-t4 c = search needs
+
+cast-t5 : tie.Need-cast-t5
+cast-t5 c = search needs
+
+returns : tie.Need-returns
+unfolding pointFields
+returns c =
+    let p = c .before .before .before .args .point in
+    let told = c .struct-told .given in
+    rw (
+      toZ-ofZ w32 (p .x) (record { sfits = told .0 .1 }),
+      toZ-ofZ w32 (p .y) (record { sfits = told .1 .0 .1 }),
+      toZ-ofZ w32 (p .z) (record { sfits = told .1 .1 .0 .1 }),
+      toZ-ofZ w8 (p .«scan_angle») (record { sfits = told .1 .1 .1 .1 .1 .1 .1 .1 .1 .0 .1 }),
+    )
+
+pub point-numbers-spec : {M : Type 1} → statement M
+point-numbers-spec = tie.close (tie.spec cast-t4 cast-t5 returns)
