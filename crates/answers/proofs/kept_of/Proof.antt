@@ -1,4 +1,5 @@
 -- `answers::kept_of` meets its contract. Assumes nothing.
+use mathlib.Core.Path.{refl}
 use Rattle.answers.specs.Answers.{keptNumbers}
 use borrow.Author.Needs.{needs}
 use Rattle.answers.proofs.kept_of.Statement.{statement}
@@ -15,15 +16,15 @@ enum-known-kept c = search needs
 
 returns : tie.Need-returns
 unfolding keptNumbers
-returns c = rw (c .enum-told .given .1)
+returns c = rw (c .enum-told .given .1) refl
 
 returns-2 : tie.Need-returns-2
 unfolding keptNumbers
-returns-2 c = rw (c .enum-told2 .given .1)
+returns-2 c = rw (c .enum-told2 .given .1) refl
 
 returns-3 : tie.Need-returns-3
 unfolding keptNumbers
-returns-3 c = rw (c .before .kept .given .1)
+returns-3 c = rw (c .before .kept .given .1) refl
 
 pub kept-of-spec : {M : Type 1} → statement M
 kept-of-spec =

@@ -1,4 +1,5 @@
 -- `answers::number_of` meets its contract. Assumes nothing.
+use mathlib.Core.Path.{refl}
 use Rattle.fields.specs.Checks.{numberOf}
 use borrow.Author.Needs.{needs}
 use Rattle.answers.proofs.number_of.Statement.{statement}
@@ -12,11 +13,11 @@ enum-known-verdict c = search needs
 
 returns : tie.Need-returns
 unfolding numberOf
-returns c = rw (c .enum-told .given .1)
+returns c = rw (c .enum-told .given .1) refl
 
 returns-2 : tie.Need-returns-2
 unfolding numberOf
-returns-2 c = rw (c .before .verdict .given .1)
+returns-2 c = rw (c .before .verdict .given .1) refl
 
 pub number-of-spec : {M : Type 1} → statement M
 number-of-spec = tie.close (tie.spec enum-told enum-known-verdict returns returns-2)

@@ -1,4 +1,6 @@
 -- `capi::las_check_sheet` meets its contract. Assumes nothing.
+use mathlib.Core.Path.{_∙_, ap}
+use Rattle.fields.specs.Checks.{numberOf}
 use borrow.Author.Needs.{needs}
 use Rattle.capi.specs.Interface.{lasCheckSheet}
 use Rattle.capi.proofs.las_check_sheet.Statement.{statement}
@@ -12,7 +14,7 @@ number-of-requires c κs = search needs
 
 returns : tie.Need-returns
 unfolding lasCheckSheet
-returns c = rw (c .number-of .ensures, c .before .check-sheet .ensures)
+returns c = c .number-of .ensures ∙ ap numberOf (c .before .check-sheet .ensures)
 
 pub las-check-sheet-spec : {M : Type 1} → statement M
 las-check-sheet-spec = tie.close (tie.spec check-sheet-requires number-of-requires returns)

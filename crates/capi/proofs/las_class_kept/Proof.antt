@@ -1,4 +1,6 @@
 -- `capi::las_class_kept` meets its contract. Assumes nothing.
+use mathlib.Core.Path.{_∙_, ap}
+use Rattle.answers.specs.Answers.{keptNumbers}
 use borrow.Author.Needs.{needs}
 use Rattle.capi.specs.Interface.{lasClassKept}
 use Rattle.capi.proofs.las_class_kept.Statement.{statement}
@@ -12,7 +14,7 @@ kept-of-requires c κs = search needs
 
 returns : tie.Need-returns
 unfolding lasClassKept
-returns c = rw (c .kept-of .ensures, c .before .class-kept .ensures)
+returns c = c .kept-of .ensures ∙ ap keptNumbers (c .before .class-kept .ensures)
 
 pub las-class-kept-spec : {M : Type 1} → statement M
 las-class-kept-spec = tie.close (tie.spec class-kept-requires kept-of-requires returns)

@@ -1,4 +1,6 @@
 -- `capi::las_decode` meets its contract. Assumes nothing.
+use mathlib.Core.Path.{_∙_, ap}
+use Rattle.pointanswers.specs.PointAnswers.{decodedNumbers}
 use borrow.Author.Needs.{needs}
 use Rattle.capi.specs.Interface.{lasDecode}
 use Rattle.capi.proofs.las_decode.Statement.{statement}
@@ -12,7 +14,7 @@ decoded-of-requires c κs = search needs
 
 returns : tie.Need-returns
 unfolding lasDecode
-returns c = rw (c .decoded-of .ensures, c .before .decode .ensures)
+returns c = c .decoded-of .ensures ∙ ap decodedNumbers (c .before .decode .ensures)
 
 pub las-decode-spec : {M : Type 1} → statement M
 las-decode-spec = tie.close (tie.spec decode-requires decoded-of-requires returns)

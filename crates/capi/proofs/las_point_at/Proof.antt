@@ -1,4 +1,6 @@
 -- `capi::las_point_at` meets its contract. Assumes nothing.
+use mathlib.Core.Path.{_∙_, ap}
+use Rattle.pointanswers.specs.PointAnswers.{pointNumbers}
 use borrow.Author.Needs.{needs}
 use Rattle.capi.specs.Interface.{lasPointAt}
 use Rattle.capi.proofs.las_point_at.Statement.{statement}
@@ -12,7 +14,7 @@ point-of-requires c κs = search needs
 
 returns : tie.Need-returns
 unfolding lasPointAt
-returns c = rw (c .point-of .ensures, c .before .point-at .ensures)
+returns c = c .point-of .ensures ∙ ap pointNumbers (c .before .point-at .ensures)
 
 pub las-point-at-spec : {M : Type 1} → statement M
 las-point-at-spec = tie.close (tie.spec point-at-requires point-of-requires returns)

@@ -1,4 +1,6 @@
 -- `capi::las_read_header` meets its contract. Assumes nothing.
+use mathlib.Core.Path.{_∙_, ap}
+use Rattle.headeranswers.specs.HeaderAnswers.{headerNumbers}
 use borrow.Author.Needs.{needs}
 use Rattle.capi.specs.Interface.{lasReadHeader}
 use Rattle.capi.proofs.las_read_header.Statement.{statement}
@@ -12,7 +14,7 @@ header-of-requires c κs = search needs
 
 returns : tie.Need-returns
 unfolding lasReadHeader
-returns c = rw (c .header-of .ensures, c .before .read-header .ensures)
+returns c = c .header-of .ensures ∙ ap headerNumbers (c .before .read-header .ensures)
 
 pub las-read-header-spec : {M : Type 1} → statement M
 las-read-header-spec = tie.close (tie.spec read-header-requires header-of-requires returns)

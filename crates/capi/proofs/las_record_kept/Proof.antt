@@ -1,4 +1,6 @@
 -- `capi::las_record_kept` meets its contract. Assumes nothing.
+use mathlib.Core.Path.{_∙_, ap}
+use Rattle.answers.specs.Answers.{keptNumbers}
 use borrow.Author.Needs.{needs}
 use Rattle.capi.specs.Interface.{lasRecordKept}
 use Rattle.capi.proofs.las_record_kept.Statement.{statement}
@@ -12,7 +14,7 @@ kept-of-requires c κs = search needs
 
 returns : tie.Need-returns
 unfolding lasRecordKept
-returns c = rw (c .kept-of .ensures, c .before .record-kept .ensures)
+returns c = c .kept-of .ensures ∙ ap keptNumbers (c .before .record-kept .ensures)
 
 pub las-record-kept-spec : {M : Type 1} → statement M
 las-record-kept-spec = tie.close (tie.spec record-kept-requires kept-of-requires returns)

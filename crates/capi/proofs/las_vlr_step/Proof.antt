@@ -1,4 +1,6 @@
 -- `capi::las_vlr_step` meets its contract. Assumes nothing.
+use mathlib.Core.Path.{_∙_, ap}
+use Rattle.recordanswers.specs.RecordAnswers.{recordNumbers}
 use borrow.Author.Needs.{needs}
 use Rattle.capi.specs.Interface.{lasVlrStep}
 use Rattle.capi.proofs.las_vlr_step.Statement.{statement}
@@ -12,7 +14,7 @@ record-of-requires c κs = search needs
 
 returns : tie.Need-returns
 unfolding lasVlrStep
-returns c = rw (c .record-of .ensures, c .before .step .ensures)
+returns c = c .record-of .ensures ∙ ap recordNumbers (c .before .step .ensures)
 
 pub las-vlr-step-spec : {M : Type 1} → statement M
 las-vlr-step-spec = tie.close (tie.spec step-requires record-of-requires returns)
