@@ -7,12 +7,13 @@ use Rattle.fields.specs.Bytes.{Bytes}
 use Rattle.fields.specs.Text.{cut}
 use Rattle.fields.specs.Checks.{numberOf}
 use Rattle.points.specs.Points.{decoded, encoded}
-use Rattle.scaling.specs.Scaling.{coordinateBits}
+use Rattle.doubles.specs.Coordinate.{coordinateBits}
 use Rattle.lasfile.specs.FileChecks.{fileVerdict}
 use Rattle.header.specs.Header.{headerRead}
 use Rattle.cursor.specs.Steps.{stepOf}
 use Rattle.onepoint.specs.OnePoint.{pointAtOf}
-use Rattle.sheet.specs.Sheet.{sheetVerdict, keepsClass, keepsRecord, keptUnder}
+use Rattle.sheet.specs.Sheet.{sheetVerdict}
+use Rattle.keeping.specs.Keeping.{keepsClass, keepsRecord, keptUnder}
 use Rattle.geokeys.specs.GeoKeys.{lookup}
 use Rattle.publicpart.specs.Release.{release}
 use Rattle.answers.specs.Answers.{releasedNumbers, keptNumbers}

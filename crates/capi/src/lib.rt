@@ -7,10 +7,13 @@ use answers::las_released;
 use answers::number_of;
 use answers::released_of;
 use cursor::VlrCursor;
+use doubles::coordinate_bits;
 use geokeys::find;
 use header::read_header;
 use headeranswers::header_of;
 use headeranswers::las_header;
+use keeping::class_kept;
+use keeping::record_kept;
 use lasfile::check_file;
 use onepoint::point_at;
 use pointanswers::decoded_of;
@@ -24,10 +27,7 @@ use recordanswers::las_geokey;
 use recordanswers::las_record;
 use recordanswers::record_of;
 use release::release;
-use scaling::coordinate_bits;
 use sheet::check_sheet;
-use sheet::class_kept;
-use sheet::record_kept;
 
 // The last change request that is in: 0 for the base.
 #[no_mangle]

@@ -1,7 +1,7 @@
 // A header as a struct of numbers with C's layout.
 ghost use mathlib.Core.Path.{_≡_};
 ghost use Rattle.headeranswers.specs.HeaderAnswers.{byReturnNumbers, scaleNumbers, offsetNumbers, boundNumbers, noHeader, headerFields, headerNumbers};
-use scaling::bits_of;
+use doubles::bits_of;
 
 // Scales, offsets and bounds are the 64 bits of doubles, in the header's own order.
 #[repr(C)]
