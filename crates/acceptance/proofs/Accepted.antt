@@ -4,10 +4,9 @@ use mathlib.Core.Path.{_≡_, refl}
 use Prim.Native.Nat.{ℕ}
 use mathlib.Core.Bool.{Bool, true, false}
 use mathlib.Core.Option.{Option, none, some}
-use lib.ListN.{length}
-use lib.Dec.{eqb, ltb}
+use lib.Dec.{eqb}
 use Rattle.fields.specs.Bytes.{Bytes}
-use Rattle.fields.specs.Checks.{numberOf, firstFailing, then}
+use Rattle.fields.specs.Checks.{numberOf, then}
 use Rattle.fields.specs.declared.Verdict.{Verdict}
 use Rattle.fields.specs.declared.Verdict.the-variants.{Passes, Fails}
 use Rattle.points.specs.Points as points
@@ -15,15 +14,14 @@ use Rattle.points.specs.declared.Point.{Point}
 use Rattle.lasfile.specs.FileChecks.{fileVerdict}
 use Rattle.header.specs.Header as header
 use Rattle.header.specs.declared.Header.{Header}
-use Rattle.cursor.specs.Steps.{stepChecks, recordIf, recordPlaces, nextCursor, stepOf}
+use Rattle.cursor.specs.Steps.{stepChecks, recordIf, stepOf}
 use Rattle.cursor.specs.declared.RecordPlaces.{RecordPlaces}
 use Rattle.cursor.specs.declared.VlrCursor.{VlrCursor}
-use Rattle.onepoint.specs.OnePoint.{pointChecks, pointPlace, pointIf, pointAtOf}
+use Rattle.onepoint.specs.OnePoint.{pointChecks, pointIf, pointAtOf}
 use Rattle.sheet.specs.Sheet.{sheetVerdict}
 use Rattle.keeping.specs.Keeping.{keptUnder}
 use Rattle.geokeys.specs.GeoKeys.{directoryChecks, entryChecks, doubleChecks, textChecks, answerIf, either, doubleIn, textIn, inParameters, fromEntry, fromDirectory, lookup, locationOf, payloadAt, entryOf, projectionPlace}
 use Rattle.geokeys.specs.declared.GeoKey.{GeoKey}
-use Rattle.publicpart.specs.Public.{publicOf}
 use Rattle.publicpart.specs.Release.{Outcome, numbers, refuseOr, shortOr, accepted, roomOr, release}
 use Rattle.answers.specs.Answers.{releasedNumbers, keptNumbers}
 use Rattle.recordanswers.specs.RecordAnswers.{recordFields, noRecord, recordNumbers, geokeyNumbers}

@@ -1,10 +1,9 @@
 -- No check of a table has the number 0, so a verdict's number is 0 exactly where it passes.
 -- Assumes nothing.
-use mathlib.Core.Path.{_≡_, refl, sym, ap, _∙_}
-use Prim.Native.Nat.{ℕ, zero, suc, _≤_}
-use mathlib.Core.Bool.{Bool, true, false, _&&_}
+use mathlib.Core.Path.{_≡_, refl}
+use Prim.Native.Nat.{ℕ, zero, suc}
+use mathlib.Core.Bool.{Bool, true, false}
 use mathlib.Core.List.{List, [], _∷_}
-use lib.Dec.{T, ltb}
 use Rattle.fields.specs.Bytes.{Bytes}
 use Rattle.fields.specs.Checks.{Check, failIf, firstFailing, fails, then, numberOf}
 use Rattle.fields.specs.declared.Verdict.{Verdict}

@@ -1,4 +1,5 @@
 -- `headeranswers::header_numbers` meets its contract. Assumes nothing.
+use mathlib.Core.Path.{refl}
 use Rattle.headeranswers.specs.HeaderAnswers.{headerFields}
 use borrow.Author.Needs.{needs}
 use Rattle.headeranswers.proofs.header_numbers.Statement.{statement}
@@ -18,7 +19,7 @@ bounds-of-requires c κs = search needs
 
 returns : tie.Need-returns
 unfolding headerFields
-returns c = rw (c .bounds-of .ensures, c .before .offsets-of .ensures, c .before .before .scales-of .ensures, c .before .before .before .by-return-of .ensures)
+returns c = rw (c .bounds-of .ensures, c .before .offsets-of .ensures, c .before .before .scales-of .ensures, c .before .before .before .by-return-of .ensures) refl
 
 pub header-numbers-spec : {M : Type 1} → statement M
 header-numbers-spec = tie.close (tie.spec by-return-of-requires scales-of-requires offsets-of-requires bounds-of-requires returns)

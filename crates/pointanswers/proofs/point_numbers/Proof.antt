@@ -1,4 +1,5 @@
 -- `pointanswers::point_numbers` meets its contract: a signed field that is copied is the one that was given. Assumes nothing.
+use mathlib.Core.Path.{refl}
 use mir.Syntax.{w8, w32}
 use mir.ValLaws.{toZ-ofZ}
 use Rattle.pointanswers.specs.PointAnswers.{pointFields}
@@ -23,6 +24,7 @@ returns c =
       toZ-ofZ w32 (p .z) (record { sfits = told .1 .1 .0 .1 }),
       toZ-ofZ w8 (p .«scan_angle») (record { sfits = told .1 .1 .1 .1 .1 .1 .1 .1 .1 .0 .1 }),
     )
+    refl
 
 pub point-numbers-spec : {M : Type 1} → statement M
 point-numbers-spec = tie.close (tie.spec cast-t4 cast-t5 returns)
