@@ -1,21 +1,19 @@
--- Laws of what decoding and encoding give: each answer under its test.
+-- Laws of what decoding gives: each answer under its test.
 -- Assumes nothing.
 use mathlib.Core.Path.{_≡_, refl, sym, ap, _∙_, subst}
 use Prim.Native.Nat.{ℕ, _≤_}
 use mathlib.Core.Bool.{Bool, true, false, _&&_, _||_, not, true≢false}
-use mathlib.Core.List.{[], _∷_}
+use mathlib.Core.List.{[]}
 use lib.ListN.{length}
-use lib.Seq.{sets}
 use lib.Dec.{T, eqb, leb, ltb}
 use borrow.Author.Tests.{eq-eqb, leb-true, leb-false, lt-ltb, le-ltb}
 use Rattle.fields.specs.Bytes.{Bytes}
 use Rattle.fields.specs.Checks.{fails, firstFailing}
-use Rattle.fields.specs.declared.Verdict.the-variants.{Passes, Fails}
 use Rattle.fields.proofs.CheckLaws.{gives, goes-on, unclear}
 use Rattle.formats.specs.Formats.{formatSize, timePlace, colourPlace}
 use Rattle.points.specs.declared.Point.{Point}
 use Rattle.points.specs.declared.Decoded.the-variants.{Fields, Refused}
-use Rattle.points.specs.Points.{shape, numberAt, decodeChecks, fieldsIf, decoded, pointOf, large, encodeChecks, storedIf, encoded, pointBytes}
+use Rattle.points.specs.Points.{shape, numberAt, decodeChecks, fieldsIf, decoded, pointOf}
 
 -- ---- the test of the shape, as the code makes it
 
@@ -36,11 +34,11 @@ shape-test f len n size e =
     (all-three (eqb n len) (leb (formatSize f) len) (leb f 3))
 
 -- the code tests whether the shape is not as it has to be
-not-shaped : (r b : Bool) → r ≡ not b → not r ≡ true → T b
+pub not-shaped : (r b : Bool) → r ≡ not b → not r ≡ true → T b
 not-shaped r true e h = tt
 not-shaped r false e h = absurd (true≢false (sym h ∙ ap not e))
 
-shaped : (r b : Bool) → r ≡ not b → not r ≡ false → T (not b)
+pub shaped : (r b : Bool) → r ≡ not b → not r ≡ false → T (not b)
 shaped r true e h = absurd (true≢false (sym (ap not e) ∙ h))
 shaped r false e h = tt
 
@@ -87,25 +85,3 @@ accepted-by f len p r e h = accepted f len p (shaped r (fails (shape f len (leng
 pub decodes : (f len : ℕ) (p : Bytes) → length p ≡ len → formatSize f ≤ len → f ≤ 3 → decoded f len p ≡ Fields (pointOf f p)
 unfolding shape
 decodes f len p e h k = accepted f len p (unclear (shape f len (length p)) (subst T (sym (eq-eqb (length p) len e)) tt, (h, k)))
-
--- ---- encoding
-
-module _ (f len : ℕ) (q : Point) (room : Bytes) where
-  pub stored : T (not (fails (shape f len (length room)))) → T (not (fails (large q))) → encoded f len q room ≡ (Passes, sets room 0 (pointBytes f q))
-  unfolding encoded encodeChecks storedIf firstFailing
-  stored h k = rw (goes-on 12 (shape f len (length room)) ((13, large q) ∷ []) h, goes-on 13 (large q) [] k)
-
-  -- as the code tests it
-  module _ (r : Bool) (e : r ≡ not (fails (shape f len (length room)))) where
-    pub refused-12 : not r ≡ true → encoded f len q room ≡ (Fails 12, room)
-    unfolding encoded encodeChecks storedIf
-    refused-12 h = rw (gives 12 (shape f len (length room)) ((13, large q) ∷ []) (not-shaped r (fails (shape f len (length room))) e h))
-
-    pub refused-13 : not r ≡ false → ltb 7 (q .«return_number») || ltb 7 (q .returns) ≡ true → encoded f len q room ≡ (Fails 13, room)
-    unfolding encoded encodeChecks storedIf fails large
-    refused-13 h k =
-        rw (goes-on 12 (shape f len (length room)) ((13, large q) ∷ []) (shaped r (fails (shape f len (length room))) e h), gives 13 (large q) [] (rw k tt))
-
-    pub stored-by : not r ≡ false → ltb 7 (q .«return_number») || ltb 7 (q .returns) ≡ false → encoded f len q room ≡ (Passes, sets room 0 (pointBytes f q))
-    unfolding fails large
-    stored-by h k = stored (shaped r (fails (shape f len (length room))) e h) (rw k tt)

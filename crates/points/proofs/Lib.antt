@@ -1,9 +1,4 @@
 pub mod SignedLaws
-pub mod FieldLaws
+mod FieldLaws
 pub mod AnswerLaws
-pub mod RoomLaws
-pub mod LayoutLaws
-pub mod BytesBack
-pub mod FieldsBack
-pub mod RoundTrips
 pub mod Samples

@@ -1,15 +1,12 @@
-// Point records of the formats 0 to 3: their fields out of bytes, and back into bytes.
+// Point records of the formats 0 to 3: their fields out of bytes.
 ghost use mathlib.Core.Path.{_≡_};
-ghost use Prim.Native.Nat.{_<_, _+_, _*_, _^_, min};
+ghost use Prim.Native.Nat.{_<_, _^_, min};
 ghost use mathlib.Core.Bool.{not};
-ghost use lib.ListN.{length};
-ghost use lib.Seq.{sets};
 ghost use mir.Syntax.{w8, w32};
-ghost use mir.Val.{toZ, ofZ};
-ghost use Rattle.fields.specs.Bytes.{num, part, join};
+ghost use mir.Val.{toZ};
+ghost use Rattle.fields.specs.Bytes.{num, part};
 ghost use Rattle.fields.specs.Checks.{fails};
-ghost use Rattle.points.specs.Points.{numberAt, shape, pointOf, decoded, flagByte, sharedFields, timeFields, colourFields, storedAt, encoded};
-use fields::Verdict;
+ghost use Rattle.points.specs.Points.{numberAt, shape, pointOf, decoded};
 use formats::Place;
 
 // A point's fields. GPS time is its 64 bits.
@@ -58,13 +55,6 @@ fn i8_of(u: u8) -> i8
     } else {
         -1 - ((255 - u) as i8)
     }
-}
-
-// The 32 bits of a number in two's complement.
-fn bits_of(z: i32) -> u64
-    ensures { λ r. ⌜ r ≡ ofZ w32 z ⌝ }
-{
-    ((z as i64 + 4294967296) as u64) % 4294967296
 }
 
 fn i32_at(s: &[u8], at: usize) -> i32
@@ -127,7 +117,7 @@ fn shared_of(s: &[u8]) -> Point
 }
 
 // Whether n bytes are the record length, and that length and the format can be.
-fn has_shape(format: u8, record_length: u16, n: usize) -> bool
+pub fn has_shape(format: u8, record_length: u16, n: usize) -> bool
     ensures { λ r. ⌜ r ≡ not (fails (shape format «record_length» n)) ⌝ }
 {
     let layout = layouts::layout_of(format);
@@ -152,74 +142,4 @@ pub fn decode(format: u8, record_length: u16, bytes: &[u8]) -> Decoded
     point.green = u16_in(bytes, colour, 2);
     point.blue = u16_in(bytes, colour, 4);
     Decoded::Fields(point)
-}
-
-// The byte at 14.
-fn flag_byte(point: Point) -> u64
-    ensures { λ r. ⌜ r ≡ flagByte point ⌝ }
-{
-    point.return_number as u64
-        + 8 * (point.returns as u64)
-        + 64 * (point.scan_direction as u64)
-        + 128 * (point.edge as u64)
-}
-
-// Writes the fields that all formats share.
-fn put_shared(room: &mut [u8], point: Point)
-    ensures { λ _. ⌜ now (room .exit) ≡ sets (now (room .entry)) 0 (join (sharedFields point)) ⌝ }
-{
-    let angle = bits_of(point.scan_angle as i32);
-    fields::numbers::put_number(room, 0, 4, bits_of(point.x));
-    fields::numbers::put_number(room, 4, 4, bits_of(point.y));
-    fields::numbers::put_number(room, 8, 4, bits_of(point.z));
-    fields::numbers::put_number(room, 12, 2, point.intensity as u64);
-    fields::numbers::put_number(room, 14, 1, flag_byte(point));
-    fields::numbers::put_number(room, 15, 1, point.class_byte as u64);
-    fields::numbers::put_number(room, 16, 1, angle);
-    fields::numbers::put_number(room, 17, 1, point.user_data as u64);
-    fields::numbers::put_number(room, 18, 2, point.source_id as u64);
-}
-
-// Writes GPS time, if the format has it.
-fn put_time(room: &mut [u8], place: Place, point: Point)
-    ensures { λ _. ⌜ now (room .exit) ≡ storedAt place (timeFields place point) (now (room .entry)) ⌝ }
-{
-    let Place::At(at) = place else {
-        return;
-    };
-    fields::numbers::put_number(room, at, 8, point.gps_time);
-}
-
-// Writes the colour, if the format has it.
-fn put_colour(room: &mut [u8], place: Place, point: Point)
-    ensures { λ _. ⌜ now (room .exit) ≡ storedAt place (colourFields place point) (now (room .entry)) ⌝ }
-{
-    let Place::At(at) = place else {
-        return;
-    };
-    if room.len() <= at {
-        return;
-    }
-    fields::numbers::put_number(room, at, 2, point.red as u64);
-    fields::numbers::put_number(room, at + 2, 2, point.green as u64);
-    fields::numbers::put_number(room, at + 4, 2, point.blue as u64);
-}
-
-// Writes a point's fields into a room of the record length. The bytes behind the format's size stay.
-pub fn encode(format: u8, record_length: u16, point: Point, room: &mut [u8]) -> Verdict
-    ensures { λ r. ⌜ (r, now (room .exit)) ≡ encoded format «record_length» point (now (room .entry)) ⌝ }
-{
-    if !has_shape(format, record_length, room.len()) {
-        return Verdict::Fails(12);
-    }
-    if (7 < point.return_number) | (7 < point.returns) {
-        return Verdict::Fails(13);
-    }
-    let layout = layouts::layout_of(format);
-    let time = layout.time;
-    let colour = layout.colour;
-    put_shared(room, point);
-    put_time(room, time, point);
-    put_colour(room, colour, point);
-    Verdict::Passes
 }

@@ -14,8 +14,8 @@ use Rattle.fields.proofs.StoreLaws.{sets-append}
 use Rattle.formats.specs.declared.Place.{Place}
 use Rattle.formats.specs.declared.Place.the-variants.{At, Absent}
 use Rattle.formats.specs.Formats.{formatSize, timePlace, colourPlace}
 use Rattle.points.specs.declared.Point.{Point}
-use Rattle.points.specs.Points.{ifPlaced, storedAt, sharedFields, timeFields, colourFields, pointFields, pointBytes}
+use Rattle.encoding.specs.Encoding.{ifPlaced, storedAt, sharedFields, timeFields, colours, colourFields, pointFields, pointBytes}
 
 -- where the format has the field, it begins after n bytes
 abbrev pub Follows : Place → ℕ → Type 0
@@ -65,7 +65,7 @@ unfolding timeFields total
 length-time place q = length-placed place (8 ∷ []) _ (length-bytesOf 8 (q .«gps_time»), tt)
 
 pub length-colour : (place : Place) (q : Point) → length (join (colourFields place q)) ≡ widthIf place 6
-unfolding colourFields total
+unfolding colourFields colours total
 length-colour place q =
     length-placed place (2 ∷ 2 ∷ 2 ∷ []) _ (length-bytesOf 2 (q .red), (length-bytesOf 2 (q .green), (length-bytesOf 2 (q .blue), tt)))
 
@@ -91,22 +91,23 @@ length-bytes f q h =
 -- ---- fields at a place, written behind what is written
 
 pub stored-behind : (place : Place) (fs : List Bytes) (room b : Bytes) → Follows place (length b)
-    → storedAt place (ifPlaced place fs) (sets room 0 b) ≡ sets room 0 (b ++ join (ifPlaced place fs))
+    → storedAt place (join (ifPlaced place fs)) (sets room 0 b) ≡ sets room 0 (b ++ join (ifPlaced place fs))
 unfolding storedAt ifPlaced join
 stored-behind Absent fs room b h = rw (append-nil b)
 stored-behind (At at) fs room b h = rw (h, ← zero-add (length b)) (sym (sets-append room 0 b (join fs)))
 
--- the room after the shared fields, GPS time and colour
-pub all-stored : (f : ℕ) (q : Point) (room : Bytes)
-    → storedAt (colourPlace f) (colourFields (colourPlace f) q) (storedAt (timePlace f) (timeFields (timePlace f) q) (sets room 0 (join (sharedFields q))))
-    ≡ sets room 0 (pointBytes f q)
+-- the room after the shared fields, and after GPS time and colour
+pub all-stored : (f : ℕ) (q : Point) (room shared whole : Bytes) → shared ≡ sets room 0 (join (sharedFields q))
+    → whole ≡ storedAt (colourPlace f) (join (colourFields (colourPlace f) q)) (storedAt (timePlace f) (join (timeFields (timePlace f) q)) shared)
+    → whole ≡ sets room 0 (pointBytes f q)
 unfolding timeFields colourFields
-all-stored f q room =
+all-stored f q room shared whole first then =
     let t = timePlace f in
     let s = join (sharedFields q) in
     let time : Follows t (length s) = rw (length-shared q) (layered f .time) in
     let wide : length (s ++ join (timeFields t q)) ≡ 20 + widthIf t 8 = length-append s (join (timeFields t q)) ∙ rw (length-shared q, length-time t q) in
     let colour : Follows (colourPlace f) (length (s ++ join (timeFields t q))) = rw wide (layered f .colour) in
-    rw (stored-behind t _ room s time)
+    then
+    ∙ rw (first, stored-behind t _ room s time)
     (stored-behind (colourPlace f) _ room (s ++ join (timeFields t q)) colour
     ∙ ap (sets room 0) (append-assoc s (join (timeFields t q)) (join (colourFields (colourPlace f) q)) ∙ sym (bytes-groups f q)))

@@ -16,9 +16,10 @@ use Rattle.fields.proofs.ByteLaws.{num-bytesOf, length-bytesOf, num-part-one, p
 use Rattle.formats.specs.declared.Place.{Place}
 use Rattle.formats.specs.declared.Place.the-variants.{At, Absent}
 use Rattle.formats.specs.Formats.{timePlace, colourPlace}
 use Rattle.points.specs.declared.Point.{Point}
-use Rattle.points.specs.Points.{bits, numberAt, pointOf, bit, flagByte, ifPlaced, sharedFields, timeFields, colourFields, valueIf, blank, InRange}
-use Rattle.points.proofs.LayoutLaws.{Follows, widthIf, layered, sharedWidths, shared-fit, length-shared, length-time}
+use Rattle.points.specs.Points.{bits, numberAt, pointOf, bit}
+use Rattle.encoding.specs.Encoding.{flagByte, ifPlaced, sharedFields, timeFields, colours, colourFields, valueIf, blank, InRange}
+use Rattle.encoding.proofs.LayoutLaws.{Follows, widthIf, layered, sharedWidths, shared-fit, length-shared, length-time}
 
 -- a number among fields that were written one behind another
 among : (ws : List ℕ) (fs : List Bytes) (rest : Bytes) (i n : ℕ) → Fit ws fs → i < length ws → getD fs i [] ≡ bytesOf (getD ws i 0) n
@@ -83,7 +84,7 @@ module _ (q : Point) (rest : Bytes) where
 
 pub fields-back : (f : ℕ) (q : Point) (rest : Bytes) → InRange q → q .«return_number» ≤ 7 → q .returns ≤ 7
     → pointOf f (join (sharedFields q) ++ (join (timeFields (timePlace f) q) ++ (join (colourFields (colourPlace f) q) ++ rest))) ≡ blank f q
-unfolding pointOf blank sharedFields timeFields colourFields
+unfolding pointOf blank sharedFields timeFields colourFields colours
 fields-back f q rest r small few =
     let t = timePlace f in
     let k = colourPlace f in

@@ -1,13 +1,14 @@
--- `points::flag_byte` meets its contract. Assumes nothing.
+-- `encoding::flag_byte` meets its contract. Assumes nothing.
 use mathlib.Core.Path.{_≡_, refl}
 use Prim.Native.Nat.{_≤_}
 use native.Mathlib.Omega.{arith}
 use mathlib.Core.Bool.{Bool, true, false}
 use mir.Val.{boolByte}
 use borrow.Author.Needs.{needs}
-use Rattle.points.specs.Points.{bit, flagByte}
-use Rattle.points.proofs.flag_byte.Statement.{statement}
-use Rattle.points.proofs.flag_byte.Tie as tie
+use Rattle.points.specs.Points.{bit}
+use Rattle.encoding.specs.Encoding.{flagByte}
+use Rattle.encoding.proofs.flag_byte.Statement.{statement}
+use Rattle.encoding.proofs.flag_byte.Tie as tie
 
 one-at-most : (b : Bool) → boolByte b ≤ 1
 one-at-most true = omega arith

@@ -14,13 +14,15 @@ use Rattle.fields.specs.declared.Verdict.{Verdict}
 use Rattle.fields.specs.declared.Verdict.the-variants.{Passes, Fails}
 use Rattle.fields.proofs.CheckLaws.{none-fails, unclear}
 use Rattle.formats.specs.Formats.{formatSize, timePlace, colourPlace}
 use Rattle.points.specs.declared.Point.{Point}
 use Rattle.points.specs.declared.Decoded.the-variants.{Fields}
-use Rattle.points.specs.Points.{bits, pointOf, shape, decodeChecks, fieldsIf, decoded, sharedFields, timeFields, colourFields, pointBytes, large, encodeChecks, storedIf, encoded, blank, InRange}
-use Rattle.points.proofs.AnswerLaws.{accepted, stored}
-use Rattle.points.proofs.LayoutLaws.{bytes-groups, length-bytes}
-use Rattle.points.proofs.BytesBack.{bytes-back}
-use Rattle.points.proofs.FieldsBack.{fields-back}
+use Rattle.points.specs.Points.{bits, pointOf, shape, decodeChecks, fieldsIf, decoded}
+use Rattle.encoding.specs.Encoding.{sharedFields, timeFields, colourFields, pointBytes, large, encodeChecks, storedIf, encoded, blank, InRange}
+use Rattle.points.proofs.AnswerLaws.{accepted}
+use Rattle.encoding.proofs.AnswerLaws.{stored}
+use Rattle.encoding.proofs.LayoutLaws.{bytes-groups, length-bytes}
+use Rattle.encoding.proofs.BytesBack.{bytes-back}
+use Rattle.encoding.proofs.FieldsBack.{fields-back}
 
 -- what is known of n bytes where 12 is not given
 record Shaped (f len n : ℕ) : Type 0 where

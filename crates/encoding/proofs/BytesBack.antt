@@ -16,8 +16,9 @@ use Rattle.fields.proofs.ByteLaws.{bytesOf-num, drop-bytes, num-part-lt, num-pa
 use Rattle.formats.specs.declared.Place.{Place}
 use Rattle.formats.specs.declared.Place.the-variants.{At, Absent}
 use Rattle.formats.specs.Formats.{formatSize, timePlace, colourPlace}
-use Rattle.points.specs.Points.{bits, numberAt, pointOf, bit, flagByte, ifPlaced, sharedFields, timeFields, colourFields, pointBytes}
-use Rattle.points.proofs.LayoutLaws.{Follows, widthIf, layered, sharedWidths, bytes-groups}
+use Rattle.points.specs.Points.{bits, numberAt, pointOf, bit}
+use Rattle.encoding.specs.Encoding.{flagByte, ifPlaced, sharedFields, timeFields, colours, colourFields, pointBytes}
+use Rattle.encoding.proofs.LayoutLaws.{Follows, widthIf, layered, sharedWidths, bytes-groups}
 
 -- ---- one field
 
@@ -132,7 +133,7 @@ module _ (f : ℕ) (s : Bytes) (all : AllBytes s) where
 
   colour-back : 20 + widthIf (timePlace f) 8 + widthIf (colourPlace f) 6 ≤ length s
       → join (colourFields (colourPlace f) (pointOf f s)) ≡ part (20 + widthIf (timePlace f) 8) (widthIf (colourPlace f) 6) s
-  unfolding total colourFields pointOf
+  unfolding total colourFields colours pointOf
   colour-back h = group-back s all (colourPlace f) (20 + widthIf (timePlace f) 8) (2 ∷ 2 ∷ 2 ∷ []) (layered f .colour) h
 
   pub bytes-back : f ≤ 3 → formatSize f ≤ length s → pointBytes f (pointOf f s) ≡ take (formatSize f) s

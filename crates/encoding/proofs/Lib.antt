@@ -1,0 +1,7 @@
+mod BitsLaws
+mod AnswerLaws
+mod RoomLaws
+mod LayoutLaws
+mod BytesBack
+mod FieldsBack
+pub mod RoundTrips

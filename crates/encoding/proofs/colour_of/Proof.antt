@@ -1,0 +1,47 @@
+-- `encoding::colour_of` meets its contract. Assumes nothing.
+use native.Mathlib.Omega.{arith}
+use borrow.Author.Needs.{needs}
+use Rattle.encoding.specs.Encoding.{colours}
+use Rattle.encoding.proofs.RoomLaws.{bytes-three}
+use Rattle.encoding.proofs.colour_of.Statement.{statement}
+use Rattle.encoding.proofs.colour_of.Tie as tie
+
+cast-result : tie.Need-cast-result
+cast-result c = search needs
+
+cast-result-2 : tie.Need-cast-result-2
+cast-result-2 c = search needs
+
+mul-result : tie.Need-mul-result
+mul-result c = search needs
+
+add-result : tie.Need-add-result
+add-result c = search needs
+
+cast-result-3 : tie.Need-cast-result-3
+cast-result-3 c = omega (arith, c .struct-known3 .given .1 .1 .1 .1 .1 .1 .1 .1 .1 .1 .1 .1 .1)
+
+mul-result-2 : tie.Need-mul-result-2
+mul-result-2 c = omega (arith, c .struct-known3 .given .1 .1 .1 .1 .1 .1 .1 .1 .1 .1 .1 .1 .1)
+
+add-result-2 : tie.Need-add-result-2
+add-result-2 c = omega (arith, c .struct-known3 .given .1 .1 .1 .1 .1 .1 .1 .1 .1 .1 .1 .1 .1)
+
+returns : tie.Need-returns
+unfolding colours
+returns c =
+    let ranges = c .struct-known3 .given .1 .1 .1 .1 .1 .1 .1 .1 .1 .1 .1 .1 .1 in
+    bytes-three _ _ _ (omega (arith, ranges)) (omega (arith, ranges))
+
+pub colour-of-spec : {M : Type 1} → statement M
+colour-of-spec =
+    tie.close
+    (tie.spec
+    cast-result
+    cast-result-2
+    mul-result
+    add-result
+    cast-result-3
+    mul-result-2
+    add-result-2
+    returns)

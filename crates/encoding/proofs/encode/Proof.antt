@@ -1,0 +1,65 @@
+-- `encoding::encode` meets its contract: each group of fields is written behind the one before it. Assumes nothing.
+use mathlib.Core.Path.{sym, ap, _∙_}
+use denote.Ref.{now}
+use lib.Seq.{sets}
+use Rattle.fields.specs.Bytes.{Bytes}
+use Rattle.fields.specs.declared.Verdict.the-variants.{Passes}
+use Rattle.encoding.specs.Encoding.{pointBytes}
+use Rattle.encoding.proofs.AnswerLaws.{refused-12, refused-13, stored-by}
+use Rattle.encoding.proofs.LayoutLaws.{all-stored}
+use borrow.Author.Needs.{needs}
+use Rattle.encoding.proofs.encode.Statement.{statement}
+use Rattle.encoding.proofs.encode.Tie as tie
+
+has-shape-requires : tie.Need-has-shape-requires
+has-shape-requires c κs = search needs
+
+returns : tie.Need-returns
+returns c =
+    let a = c .before .before .before .args in
+    sym (refused-12 (a .format) (a .record-length) (a .point) (a .room .now) _ (c .before .has-shape .ensures) (c .if1 .taken))
+
+is-large-requires : tie.Need-is-large-requires
+is-large-requires c κs = search needs
+
+returns-2 : tie.Need-returns-2
+returns-2 c =
+    let i = c .before .before in
+    let h = i .before in
+    let a = h .before .before .args in
+    sym (refused-13 (a .format) (a .record-length) (a .point) (a .room .now) _ (h .has-shape .ensures) (i .if1 .left) (sym (c .before .is-large .ensures) ∙ c .if2 .taken))
+
+put-shared-requires : tie.Need-put-shared-requires
+put-shared-requires c κs = search needs
+
+put-others-requires : tie.Need-put-others-requires
+put-others-requires c κs = search needs
+
+same-length : tie.Need-same-length
+same-length c = search needs
+
+returns-3 : tie.Need-returns-3
+returns-3 c =
+    let k = c .before .before in
+    let p = k .before .before .before .before in
+    let e = p .before .before in
+    let i = e .before .before in
+    let h = i .before in
+    let a = h .before .before .args in
+    _∙_
+    {b = (Passes, sets (a .room .now) 0 (pointBytes (a .format) (a .point)))}
+    (ap (λ (b : Bytes). (Passes, b)) (all-stored (a .format) (a .point) (a .room .now) _ _ (p .put-shared .ensures) (k .put-others .ensures)))
+    (sym (stored-by (a .format) (a .record-length) (a .point) (a .room .now) _ (h .has-shape .ensures) (i .if1 .left) (sym (e .before .is-large .ensures) ∙ e .if2 .left)))
+
+pub encode-spec : {M : Type 1} → statement M
+encode-spec =
+    tie.close
+    (tie.spec
+    has-shape-requires
+    returns
+    is-large-requires
+    returns-2
+    put-shared-requires
+    put-others-requires
+    same-length
+    returns-3)

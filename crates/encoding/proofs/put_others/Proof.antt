@@ -1,0 +1,54 @@
+-- `encoding::put_others` meets its contract. Assumes nothing.
+use mathlib.Core.Path.{ap, _∙_}
+use denote.Ref.{now}
+use borrow.Author.Needs.{needs}
+use mathlib.Core.List.{[], _∷_}
+use Rattle.fields.specs.Bytes.{bytesOf}
+use Rattle.formats.specs.Formats.{timePlace, colourPlace}
+use Rattle.layouts.specs.declared.Layout.{Layout}
+use Rattle.layouts.specs.Layouts.{layoutOf}
+use Rattle.encoding.specs.Encoding.{timeFields, colours, colourFields}
+use Rattle.encoding.proofs.RoomLaws.{alone, placed}
+use Rattle.encoding.proofs.put_others.Statement.{statement}
+use Rattle.encoding.proofs.put_others.Tie as tie
+
+layout-of-requires : tie.Need-layout-of-requires
+layout-of-requires c κs = search needs
+
+put-at-requires : tie.Need-put-at-requires
+put-at-requires c κs = search needs
+
+colour-of-requires : tie.Need-colour-of-requires
+colour-of-requires c κs = search needs
+
+put-at-requires-2 : tie.Need-put-at-requires-2
+put-at-requires-2 c κs = search needs
+
+same-length : tie.Need-same-length
+same-length c = search needs
+
+returns : tie.Need-returns
+unfolding layoutOf timeFields colourFields
+returns c =
+    let k = c .before .before in
+    let t = k .before .before .before .before .before in
+    let a = c .before .before .before .before .before .before .before .before .before .before .before .args in
+    let f = a .format in
+    let layout = c .before .before .before .before .before .before .before .before .before .layout-of .ensures in
+    let time = bytesOf 8 (a .point .«gps_time») in
+    let one =
+    rw (ap (λ (l : Layout). l .time) layout) at (t .put-at .ensures)
+    ∙ placed (timePlace f) (time ∷ []) time (now (a .room)) (alone time) in
+    rw (ap (λ (l : Layout). l .colour) layout, one) at (k .put-at2 .ensures)
+    ∙ placed (colourPlace f) (colours (a .point)) _ _ (k .before .colour-of .ensures)
+
+pub put-others-spec : {M : Type 1} → statement M
+put-others-spec =
+    tie.close
+    (tie.spec
+    layout-of-requires
+    put-at-requires
+    colour-of-requires
+    put-at-requires-2
+    same-length
+    returns)
