@@ -10,6 +10,7 @@ use Rattle.fields.specs.Checks.{numberOf, then}
 use Rattle.fields.specs.declared.Verdict.{Verdict}
 use Rattle.fields.specs.declared.Verdict.the-variants.{Passes, Fails}
 use Rattle.points.specs.Points as points
+use Rattle.encoding.specs.Encoding as encoding
 use Rattle.points.specs.declared.Point.{Point}
 use Rattle.lasfile.specs.FileChecks.{fileVerdict}
 use Rattle.header.specs.Header as header
@@ -53,8 +54,8 @@ unfolding points.fieldsIf decodedNumbers pointFields noPoint isDecoded Numbered 
 decoded-if Passes p e = refl
 decoded-if (Fails n) p e = e
 
-stored-if : (v : Verdict) (b room : Bytes) → Numbered v → Numbered (points.storedIf v b room .0)
-unfolding points.storedIf
+stored-if : (v : Verdict) (b room : Bytes) → Numbered v → Numbered (encoding.storedIf v b room .0)
+unfolding encoding.storedIf
 stored-if Passes b room e = e
 stored-if (Fails n) b room e = e
 
@@ -136,7 +137,7 @@ released sheet s out =
 
 pub zero-where-accepted : ZeroWhereAccepted
 unfolding lasCheckFile lasCheckSheet lasReadHeader lasVlrStep lasPointAt lasDecode lasEncode lasClassKept lasRecordKept lasGeokeyFind lasRelease
-    header.headerRead stepOf pointAtOf points.decoded points.encoded points.decodeChecks points.encodeChecks Numbered NumberedKey NumberedOutcome AboveZero isZero
+    header.headerRead stepOf pointAtOf points.decoded encoding.encoded points.decodeChecks encoding.encodeChecks Numbered NumberedKey NumberedOutcome AboveZero isZero
 zero-where-accepted =
     record {
       check-file = file-numbered;
@@ -149,7 +150,7 @@ zero-where-accepted =
           λ file index.
           point-if _ _ _ (then-numbered (fileVerdict file) _ (file-numbered file) (first-numbered (pointChecks file index) (refl, tt)));
       decode = λ format len bytes. decoded-if _ _ (first-numbered (points.decodeChecks format len bytes) (refl, tt));
-      encode = λ format len p room. stored-if _ _ room (first-numbered (points.encodeChecks format len _ room) (refl, (refl, tt)));
+      encode = λ format len p room. stored-if _ _ room (first-numbered (encoding.encodeChecks format len _ room) (refl, (refl, tt)));
       class-kept = λ sheet class. kept-if (sheetVerdict sheet) _ (sheet-numbered sheet);
       record-kept = λ sheet user id. kept-if (sheetVerdict sheet) _ (sheet-numbered sheet);
       geokey-find = found;

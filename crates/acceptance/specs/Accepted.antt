@@ -7,7 +7,8 @@ use lib.Dec.{eqb}
 use Rattle.fields.specs.Bytes.{Bytes}
 use Rattle.fields.specs.declared.Verdict.{Verdict}
 use Rattle.fields.specs.declared.Verdict.the-variants as verdict
-use Rattle.points.specs.Points.{decoded, encoded}
+use Rattle.points.specs.Points.{decoded}
+use Rattle.encoding.specs.Encoding.{encoded}
 use Rattle.points.specs.declared.Decoded.{Decoded}
 use Rattle.points.specs.declared.Decoded.the-variants as point
 use Rattle.lasfile.specs.FileChecks.{fileVerdict}

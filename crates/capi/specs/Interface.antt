@@ -6,7 +6,8 @@ use lib.Ieee.{binary64, ofBits}
 use Rattle.fields.specs.Bytes.{Bytes}
 use Rattle.fields.specs.Text.{cut}
 use Rattle.fields.specs.Checks.{numberOf}
-use Rattle.points.specs.Points.{decoded, encoded}
+use Rattle.points.specs.Points.{decoded}
+use Rattle.encoding.specs.Encoding.{encoded}
 use Rattle.doubles.specs.Coordinate.{coordinateBits}
 use Rattle.lasfile.specs.FileChecks.{fileVerdict}
 use Rattle.header.specs.Header.{headerRead}
