@@ -17,7 +17,8 @@ use Rattle.formats.specs.declared.Place.{Place}
 use Rattle.formats.specs.declared.Place.the-variants.{At, Absent}
 use Rattle.formats.specs.Formats.{formatSize, timePlace, colourPlace}
 use Rattle.points.specs.Points.{bits, numberAt, pointOf, bit}
-use Rattle.encoding.specs.Encoding.{flagByte, ifPlaced, sharedFields, timeFields, colours, colourFields, pointBytes}
+use Rattle.shared.specs.Shared.{flagByte, sharedFields}
+use Rattle.encoding.specs.Encoding.{ifPlaced, timeFields, colours, colourFields, pointBytes}
 use Rattle.encoding.proofs.LayoutLaws.{Follows, widthIf, layered, sharedWidths, bytes-groups}
 
 -- ---- one field

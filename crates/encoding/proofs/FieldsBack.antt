@@ -18,7 +18,8 @@ use Rattle.formats.specs.declared.Place.the-variants.{At, Absent}
 use Rattle.formats.specs.Formats.{timePlace, colourPlace}
 use Rattle.points.specs.declared.Point.{Point}
 use Rattle.points.specs.Points.{bits, numberAt, pointOf, bit}
-use Rattle.encoding.specs.Encoding.{flagByte, ifPlaced, sharedFields, timeFields, colours, colourFields, valueIf, blank, InRange}
+use Rattle.shared.specs.Shared.{flagByte, sharedFields}
+use Rattle.encoding.specs.Encoding.{ifPlaced, timeFields, colours, colourFields, valueIf, blank, InRange}
 use Rattle.encoding.proofs.LayoutLaws.{Follows, widthIf, layered, sharedWidths, shared-fit, length-shared, length-time}
 
 -- a number among fields that were written one behind another

@@ -15,7 +15,8 @@ use Rattle.formats.specs.declared.Place.{Place}
 use Rattle.formats.specs.declared.Place.the-variants.{At, Absent}
 use Rattle.formats.specs.Formats.{formatSize, timePlace, colourPlace}
 use Rattle.points.specs.declared.Point.{Point}
-use Rattle.encoding.specs.Encoding.{ifPlaced, storedAt, sharedFields, timeFields, colours, colourFields, pointFields, pointBytes}
+use Rattle.shared.specs.Shared.{sharedFields}
+use Rattle.encoding.specs.Encoding.{ifPlaced, storedAt, timeFields, colours, colourFields, pointFields, pointBytes}
 
 -- where the format has the field, it begins after n bytes
 abbrev pub Follows : Place → ℕ → Type 0

@@ -1,4 +1,3 @@
-mod BitsLaws
 mod AnswerLaws
 mod RoomLaws
 mod LayoutLaws

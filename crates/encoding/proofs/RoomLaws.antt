@@ -1,35 +1,14 @@
--- Laws of a room into which fields are written one behind another, and at a place that a format has or lacks.
+-- Laws of fields written at a place that a format has or lacks, and of three numbers in one.
 -- Assumes nothing.
 use mathlib.Core.Path.{_≡_, refl, sym, ap, _∙_}
 use Prim.Native.Nat.{ℕ, zero, suc, _+_, _*_, _/_, _%_, _^_, _<_}
 use native.Mathlib.Nat.{mul-assoc, mul-comm, pow-suc}
 use native.Mathlib.Omega.{arith}
 use mathlib.Core.List.{List, [], _∷_, _++_, append-nil}
-use lib.ListN.{length}
-use lib.Seq.{sets}
 use Rattle.fields.specs.Bytes.{Bytes, bytesOf, join}
-use Rattle.fields.proofs.StoreLaws.{sets-append}
 use Rattle.formats.specs.declared.Place.{Place}
 use Rattle.formats.specs.declared.Place.the-variants.{At, Absent}
 use Rattle.encoding.specs.Encoding.{ifPlaced, storedAt}
-
--- a field of w bytes, and the others behind it
-pub then-more : (d e r : Bytes) (at w next : ℕ) (a b : Bytes) (fs : List Bytes) → e ≡ sets d at a → a ≡ b → length b ≡ w → next ≡ at + w
-    → r ≡ sets e next (join fs) → r ≡ sets d at (join (b ∷ fs))
-unfolding join
-then-more d e r at w next a b fs s same wide n more =
-    more ∙ rw (s, same, n, ← wide) (sym (sets-append d at b (join fs)))
-
--- a field alone
-pub alone : (b : Bytes) → b ≡ join (b ∷ [])
-unfolding join
-alone b = sym (append-nil b)
-
--- the last field
-pub last-field : (d r : Bytes) (at : ℕ) (a b : Bytes) → r ≡ sets d at a → a ≡ b → r ≡ sets d at (join (b ∷ []))
-last-field d r at a b s same = s ∙ ap (sets d at) (same ∙ alone b)
-
--- ---- fields at a place
 
 -- bytes that are those of fields which the format has or lacks
 pub placed : (place : Place) (fs : List Bytes) (b room : Bytes) → b ≡ join fs → storedAt place b room ≡ storedAt place (join (ifPlaced place fs)) room

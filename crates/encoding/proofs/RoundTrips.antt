@@ -17,7 +17,8 @@ use Rattle.formats.specs.Formats.{formatSize, timePlace, colourPlace}
 use Rattle.points.specs.declared.Point.{Point}
 use Rattle.points.specs.declared.Decoded.the-variants.{Fields}
 use Rattle.points.specs.Points.{bits, pointOf, shape, decodeChecks, fieldsIf, decoded}
-use Rattle.encoding.specs.Encoding.{sharedFields, timeFields, colourFields, pointBytes, large, encodeChecks, storedIf, encoded, blank, InRange}
+use Rattle.shared.specs.Shared.{sharedFields}
+use Rattle.encoding.specs.Encoding.{timeFields, colourFields, pointBytes, large, encodeChecks, storedIf, encoded, blank, InRange}
 use Rattle.points.proofs.AnswerLaws.{accepted}
 use Rattle.encoding.proofs.AnswerLaws.{stored}
 use Rattle.encoding.proofs.LayoutLaws.{bytes-groups, length-bytes}

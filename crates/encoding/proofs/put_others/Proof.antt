@@ -8,7 +8,8 @@ use Rattle.formats.specs.Formats.{timePlace, colourPlace}
 use Rattle.layouts.specs.declared.Layout.{Layout}
 use Rattle.layouts.specs.Layouts.{layoutOf}
 use Rattle.encoding.specs.Encoding.{timeFields, colours, colourFields}
-use Rattle.encoding.proofs.RoomLaws.{alone, placed}
+use Rattle.shared.proofs.RoomLaws.{alone}
+use Rattle.encoding.proofs.RoomLaws.{placed}
 use Rattle.encoding.proofs.put_others.Statement.{statement}
 use Rattle.encoding.proofs.put_others.Tie as tie
 

@@ -1,4 +1,4 @@
--- `encoding::flag_byte` meets its contract. Assumes nothing.
+-- `shared::flag_byte` meets its contract. Assumes nothing.
 use mathlib.Core.Path.{_≡_, refl}
 use Prim.Native.Nat.{_≤_}
 use native.Mathlib.Omega.{arith}
@@ -6,9 +6,9 @@ use mathlib.Core.Bool.{Bool, true, false}
 use mir.Val.{boolByte}
 use borrow.Author.Needs.{needs}
 use Rattle.points.specs.Points.{bit}
-use Rattle.encoding.specs.Encoding.{flagByte}
-use Rattle.encoding.proofs.flag_byte.Statement.{statement}
-use Rattle.encoding.proofs.flag_byte.Tie as tie
+use Rattle.shared.specs.Shared.{flagByte}
+use Rattle.shared.proofs.flag_byte.Statement.{statement}
+use Rattle.shared.proofs.flag_byte.Tie as tie
 
 one-at-most : (b : Bool) → boolByte b ≤ 1
 one-at-most true = omega arith

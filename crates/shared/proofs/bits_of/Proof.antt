@@ -1,7 +1,7 @@
--- `encoding::bits_of` meets its contract: the sum with 2 ^ 32 is not negative and has the same low 32 bits. Assumes nothing.
-use Rattle.encoding.proofs.BitsLaws.{cast-fits, sum-fits, back-fits, low-bits}
-use Rattle.encoding.proofs.bits_of.Statement.{statement}
-use Rattle.encoding.proofs.bits_of.Tie as tie
+-- `shared::bits_of` meets its contract: the sum with 2 ^ 32 is not negative and has the same low 32 bits. Assumes nothing.
+use Rattle.shared.proofs.BitsLaws.{cast-fits, sum-fits, back-fits, low-bits}
+use Rattle.shared.proofs.bits_of.Statement.{statement}
+use Rattle.shared.proofs.bits_of.Tie as tie
 
 cast-result : tie.Need-cast-result
 cast-result c = cast-fits (c .args .z) (c .fits .z)

@@ -1,4 +1,4 @@
--- `encoding::put_shared` meets its contract: each field is written behind the one before it. Assumes nothing.
+-- `shared::put_shared` meets its contract: each field is written behind the one before it. Assumes nothing.
 use mathlib.Core.Path.{refl, _∙_, ap}
 use native.Mathlib.Omega.{arith}
 use mir.Syntax.{w8, w32}
@@ -7,11 +7,11 @@ use lib.ListN.{length}
 use lib.Seq.{length-sets}
 use Rattle.fields.specs.Bytes.{bytesOf}
 use Rattle.fields.proofs.ByteLaws.{length-bytesOf}
-use Rattle.encoding.specs.Encoding.{sharedFields}
-use Rattle.encoding.proofs.BitsLaws.{cast-wider, passed, passed-byte}
-use Rattle.encoding.proofs.RoomLaws.{then-more, last-field}
-use Rattle.encoding.proofs.put_shared.Statement.{statement}
-use Rattle.encoding.proofs.put_shared.Tie as tie
+use Rattle.shared.specs.Shared.{sharedFields}
+use Rattle.shared.proofs.BitsLaws.{cast-wider, passed, passed-byte}
+use Rattle.shared.proofs.RoomLaws.{then-more, last-field}
+use Rattle.shared.proofs.put_shared.Statement.{statement}
+use Rattle.shared.proofs.put_shared.Tie as tie
 
 cast-bits-of : tie.Need-cast-bits-of
 cast-bits-of c =
