@@ -1,19 +1,23 @@
 -- `release::release` meets its contract. Assumes nothing.
-use mathlib.Core.Path.{_≡_, sym, _∙_}
-use Prim.Native.Nat.{_-_, _≤_}
+use mathlib.Core.Path.{_≡_, sym, ap, _∙_}
+use mathlib.Core.List.{_++_}
+use Prim.Native.Nat.{ℕ, _+_, _-_, _*_, _≤_}
 use native.Mathlib.Omega.{arith}
 use denote.Ref.{now}
 use lib.ListN.{length, drop}
-use Rattle.fields.specs.Bytes.{Bytes, AllBytes, part, num}
+use Rattle.fields.specs.Bytes.{AllBytes, zeros}
 use Rattle.fields.specs.declared.Verdict.the-variants.{Passes}
 use Rattle.fields.proofs.StoreLaws.{tail-part}
 use Rattle.lasfile.specs.FileChecks.{pointOffset, pointCount, recordLength, fileVerdict}
 use Rattle.lasfile.proofs.Passed.{passed}
 use Rattle.sheet.specs.Sheet.{sheetVerdict}
 use Rattle.tally.specs.Tally.{keptTally}
-use Rattle.publicpart.specs.Release.{accepted}
+use Rattle.publicpart.specs.Public.{publicOf}
+use Rattle.publicpart.specs.Render.{render}
+use Rattle.publicpart.specs.Release.{Outcome, accepted}
+use Rattle.publicpart.specs.declared.Answer.the-variants.{Released, Short}
 use Rattle.publicpart.proofs.AnswerLaws.{refused-by-file, refused-by-sheet, release-short, release-long}
-use Rattle.release.proofs.AssemblyLaws.{Sized, sized}
+use Rattle.release.proofs.AssemblyLaws.{assembled, Sized, sized}
 use borrow.Author.Needs.{needs}
 use Rattle.release.proofs.release.Statement.{statement}
 use Rattle.release.proofs.release.Tie as tie
@@ -42,10 +46,11 @@ length-is : (c : tie.After-number-at2) → c .number-at2 .result ≡ recordLengt
 unfolding recordLength
 length-is c = c .number-at2 .ensures .0
 
-measured : (c : tie.After-measure)
-    → Sized (now (c .before .before .before .before .before .before .before .before .before .before .before .before .before .before .before .before .args .sheet)) (now (c .before .before .before .before .before .before .before .before .before .before .before .before .before .before .before .before .args .file)) (c .before .tally-points .result) (c .before .before .before .before .before .number-at2 .result) (c .measure .result .count) (c .measure .result .length)
-measured c =
-    sized _ _ (file-bytes (c .before .before .before .before .before .before .before .before .before .before .before .before .before .before .before)) (file-passes (c .before .before .before .before .before .before .before .before .before .before)) (c .before .before .before .class-table .result) (c .before .before .before .class-table .ensures) _ (tally-is (c .before)) _ (length-is (c .before .before .before .before .before)) _ _ (c .measure .ensures)
+sizes : (c : tie.After-measure)
+    → let a = c .before .before .before .before .before .before .before .before .before .before .before .before .before .before .before .before .args in
+    Sized (now (a .sheet)) (now (a .file)) (c .before .tally-points .result) (c .measure .result) (c .before .before .before .before .before .number-at2 .result)
+sizes c =
+    sized _ _ (file-bytes (c .before .before .before .before .before .before .before .before .before .before .before .before .before .before .before)) (file-passes (c .before .before .before .before .before .before .before .before .before .before)) (c .before .before .before .class-table .result) (c .before .before .before .class-table .ensures) _ (tally-is (c .before)) _ (c .measure .ensures) _ (length-is (c .before .before .before .before .before))
 
 check-file-requires : tie.Need-check-file-requires
 check-file-requires c κs = search needs
@@ -96,44 +101,63 @@ tally-points-requires : tie.Need-tally-points-requires
 tally-points-requires c κs = search needs
 
 measure-requires : tie.Need-measure-requires
-measure-requires c κs = file-passes (c .before .before .before .before .before .before .before .before .before)
+measure-requires c κs = search needs
 
 add-start : tie.Need-add-start
-add-start c = let m = measured (c .before) in omega (arith, m .needed, m .most, c .before .before .before .before .before .before .before .before .before .before .before .before .before .before .before .before .before .good)
+add-start c = let m = sizes (c .before) in omega (arith, m .needed, m .most, c .before .before .before .before .before .before .before .before .before .before .before .before .before .before .before .before .before .good)
 
 mul-needed : tie.Need-mul-needed
-mul-needed c = let m = measured (c .before) in omega (arith, m .needed, m .most, c .before .before .before .before .before .before .before .before .before .before .before .before .before .before .before .before .before .good)
+mul-needed c = let m = sizes (c .before) in omega (arith, m .needed, m .most, c .before .before .before .before .before .before .before .before .before .before .before .before .before .before .before .before .before .good)
 
 add-needed : tie.Need-add-needed
-add-needed c = let m = measured (c .before) in omega (arith, m .needed, m .most, c .before .before .before .before .before .before .before .before .before .before .before .before .before .before .before .before .before .good)
+add-needed c = let m = sizes (c .before) in omega (arith, m .needed, m .most, c .before .before .before .before .before .before .before .before .before .before .before .before .before .before .before .before .before .good)
 
+-- 30 returns the needed length
 returns-3 : tie.Need-returns-3
 returns-3 c =
-    let m = measured (c .before .before) in
-    rw (m .needed) (sym (release-short _ _ _ (file-passes (c .before .before .before .before .before .before .before .before .before .before .before .before)) (sheet-passes (c .before .before .before .before .before .before .before .before .before)) (omega (arith, m .needed))))
+    let m = sizes (c .before .before) in
+    let a = c .before .before .before .before .before .before .before .before .before .before .before .before .before .before .before .before .before .before .args in
+    let k = c .before .before .measure .result in
+    let t = c .before .before .before .tally-points .result in
+    let needed : _≡_ {A = Outcome} (Short (227 + k .length + t .count * c .before .before .before .before .before .before .before .number-at2 .result), now (a .out)) (Short (length (render (publicOf (now (a .sheet)) (now (a .file))))), now (a .out)) =
+    ap (λ (n : ℕ). (Short n, now (a .out))) (m .needed) in
+    needed ∙ sym (release-short _ _ _ (file-passes (c .before .before .before .before .before .before .before .before .before .before .before .before)) (sheet-passes (c .before .before .before .before .before .before .before .before .before)) (omega (arith, m .needed)))
 
 write-requires : tie.Need-write-requires
-write-requires c κs =
-    let m = measured (c .before .before .before) in
-    record {
-      passes = file-passes (c .before .before .before .before .before .before .before .before .before .before .before .before .before);
-      table-right = c .before .before .before .before .before .before .class-table .ensures;
-      tallied = tally-is (c .before .before .before .before);
-      counted = m .records;
-      offset = m .offset;
-      needed = m .needed;
-      room = omega arith;
-    }
+write-requires c κs = search needs
 
 same-length : tie.Need-same-length
 same-length c = search needs
 
+-- the output is the released file and zeros
+output-is : (c : tie.After-slice-known2)
+    → let a = c .before .before .before .before .before .before .before .before .before .before .before .before .before .before .before .before .before .before .before .before .before .before .args in
+    let p = publicOf (now (a .sheet)) (now (a .file)) in
+    c .before .before .write .last .1 .1 .1 .1 .1 .1 .1 .0 ≡ render p ++ zeros (length (now (a .out)) - length (render p))
+output-is c =
+    let a = c .before .before .before .before .before .before .before .before .before .before .before .before .before .before .before .before .before .before .before .before .before .before .args in
+    let s = now (a .file) in
+    let sheet = now (a .sheet) in
+    let table = c .before .before .before .before .before .before .before .before .before .class-table .result in
+    let t = c .before .before .before .before .before .before .before .tally-points .result in
+    let m = sizes (c .before .before .before .before .before .before) in
+    c .before .before .write .ensures
+    ∙ rw (m .records, m .needed, m .offset)
+    (assembled sheet s (file-bytes (c .before .before .before .before .before .before .before .before .before .before .before .before .before .before .before .before .before .before .before .before .before)) (file-passes (c .before .before .before .before .before .before .before .before .before .before .before .before .before .before .before .before)) table (c .before .before .before .before .before .before .before .before .before .class-table .ensures) t (tally-is (c .before .before .before .before .before .before .before)) (now (a .out)) (omega (arith, m .needed)))
+
+-- the numbers are the released file's length, its points and its records
 returns-4 : tie.Need-returns-4
 unfolding accepted
 returns-4 c =
-    let m = measured (c .before .before .before .before .before .before) in
-    rw (c .before .before .write .ensures, m .needed, m .points, m .records)
-    (sym (release-long _ _ _ (file-passes (c .before .before .before .before .before .before .before .before .before .before .before .before .before .before .before .before)) (sheet-passes (c .before .before .before .before .before .before .before .before .before .before .before .before .before)) (omega (arith, m .needed))))
+    let m = sizes (c .before .before .before .before .before .before) in
+    let a = c .before .before .before .before .before .before .before .before .before .before .before .before .before .before .before .before .before .before .before .before .before .before .args in
+    let p = publicOf (now (a .sheet)) (now (a .file)) in
+    let k = c .before .before .before .before .before .before .measure .result in
+    let t = c .before .before .before .before .before .before .before .tally-points .result in
+    let numbers : Released (227 + k .length + t .count * c .before .before .before .before .before .before .before .before .before .before .before .number-at2 .result) (t .count) (k .count) ≡ Released (length (render p)) (length (p .points)) (length (p .records)) =
+    rw (m .needed, m .points, m .records) in
+    (λ i. (numbers i, output-is c i))
+    ∙ sym (release-long _ _ _ (file-passes (c .before .before .before .before .before .before .before .before .before .before .before .before .before .before .before .before)) (sheet-passes (c .before .before .before .before .before .before .before .before .before .before .before .before .before)) (omega (arith, m .needed)))
 
 pub release-spec : {M : Type 1} → statement M
 release-spec =

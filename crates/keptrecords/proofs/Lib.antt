@@ -1,0 +1,2 @@
+pub mod RecordPartLaws
+pub mod KeptLaws

@@ -1,0 +1,117 @@
+-- `keptrecords::copy_records` meets its contract. The loop's invariant: what the records still to walk make of the output is what all make of it.
+-- Assumes nothing.
+use mathlib.Core.Path.{_≡_, sym, ap, _∙_}
+use mathlib.Core.Logic.{⊎-elim}
+use native.Mathlib.Omega.{arith}
+use borrow.Author.Needs.{needs}
+use Prim.Native.Nat.{ℕ}
+use lib.ListN.{drop}
+use lib.Seq.{sets}
+use Rattle.fields.specs.Bytes.{Bytes, AllBytes, part, num}
+use Rattle.records.specs.Records.{recordOf, recordLen, recordBytes}
+use Rattle.lasfile.specs.FileChecks.{recordCount, headerSize}
+use Rattle.publicpart.specs.Public.{keptRecord}
+use Rattle.keptrecords.proofs.KeptLaws.{from-place, Copying, copying-begins, copying-kept, copying-past, copying-ends}
+use Rattle.keptrecords.proofs.copy_records.Statement.{statement}
+use Rattle.keptrecords.proofs.copy_records.Tie as tie
+
+unfold-counts : (sheet s out : Bytes) (left at : ℕ) → left ≡ num (part 100 4 s) → at ≡ num (part 94 2 s) → Copying sheet s out out (recordCount s) (headerSize s) 227
+    → Copying sheet s out out left at 227
+unfolding recordCount headerSize
+unfold-counts sheet s out left at l a m = rw (l, a) m
+
+abbrev Inv-loop : tie.InvT-loop
+Inv-loop file sheet out₀ at₀ left₀ to₀ out at left to = AllBytes file × Copying sheet file out₀ out left at to
+
+abbrev μ-loop : tie.MeasureT-loop
+μ-loop file sheet out₀ at₀ left₀ to₀ out at left to = left
+
+number-at-requires : tie.Need-number-at-requires Inv-loop μ-loop
+number-at-requires c κs = search needs
+
+number-at-requires-2 : tie.Need-number-at-requires-2 Inv-loop μ-loop
+number-at-requires-2 c κs = search needs
+
+loop-holds : tie.Need-loop-holds Inv-loop μ-loop
+loop-holds c =
+    let a = c .before .before .before .before .before .args in
+    let bytes : AllBytes (a .file .now) = λ i. omega (arith, c .before .before .before .before .shared-slice-known .given i) in (
+      bytes,
+      unfold-counts (a .sheet .now) (a .file .now) (a .out .now) _ _ (c .number-at2 .ensures .0) (c .before .number-at .ensures .0) (copying-begins (a .sheet .now) (a .file .now) (a .out .now) bytes),
+    )
+
+part-at-requires : tie.Need-part-at-requires Inv-loop μ-loop
+part-at-requires c κs = search needs
+
+keeps-requires : tie.Need-keeps-requires Inv-loop μ-loop
+keeps-requires c κs = search needs
+
+put-record-at-requires : tie.Need-put-record-at-requires Inv-loop μ-loop
+put-record-at-requires c κs = search needs
+
+written-length-requires : tie.Need-written-length-requires Inv-loop μ-loop
+written-length-requires c κs = search needs
+
+add-to : tie.Need-add-to Inv-loop μ-loop
+add-to c = let l = c .before .before .before .before .before .before .before .before .before .loop in omega (arith, l .inv .1 .low, c .written-length .ensures .1)
+
+size-at-requires : tie.Need-size-at-requires Inv-loop μ-loop
+size-at-requires c κs = search needs
+
+add-at : tie.Need-add-at Inv-loop μ-loop
+add-at c = let l = c .before .before .before .before .before .loop in omega (arith, l .inv .1 .place, c .size-at .ensures .1)
+
+sub-left : tie.Need-sub-left Inv-loop μ-loop
+sub-left c = omega arith
+
+loop-less : tie.Need-loop-less Inv-loop μ-loop
+loop-less c = omega arith
+
+loop-again : tie.Need-loop-again Inv-loop μ-loop
+loop-again c =
+    let l = c .before .before .before .before .before .loop in
+    let s = c .before .before .before .before .before .before .before .before .before .before .before .args .file .now in
+    let sheet = c .before .before .before .before .before .before .before .before .before .before .before .args .sheet .now in
+    let size = c .size-at .ensures in
+    let small = rw (size .0) at (size .1) in
+    let here = c .before .before .before .part-at .ensures ∙ from-place s (l .at) in
+    let keeps = c .before .before .keeps .ensures ∙ ap (λ (v : Bytes). keptRecord sheet (recordOf 2 v)) here in (
+      l .inv .0,
+      ⊎-elim
+          (λ w.
+          let long = w .5 .ensures .0 ∙ ap (λ (v : Bytes). recordLen 2 (recordOf 2 v)) here in
+          let stored = w .2 .ensures ∙ ap (λ (v : Bytes). sets (l .out) (l .to) (recordBytes 2 (recordOf 2 v))) here in
+          rw (w .6, w .7, long, size .0) (copying-kept sheet s _ _ (l .inv .0) (l .left) (l .at) (l .to) (omega arith) small (l .inv .1) _ stored (w .2 .kept .1 .0) (sym keeps ∙ w .0 .taken)))
+          (λ w. rw (w .1, w .2, size .0) (copying-past sheet s _ _ (l .inv .0) (l .left) (l .at) (l .to) (omega arith) small (l .inv .1) (sym keeps ∙ w .0 .left)))
+          (c .before .if1 .came),
+    )
+
+same-length : tie.Need-same-length Inv-loop μ-loop
+same-length c = c .before .loop .inv .1 .same
+
+returns : tie.Need-returns Inv-loop μ-loop
+returns c =
+    let l = c .before .loop in
+    copying-ends _ _ _ (l .out) (l .left) (l .at) (l .to) (omega arith) (l .inv .1)
+
+pub copy-records-spec : {M : Type 1} → statement M
+copy-records-spec =
+    tie.close
+    (tie.spec
+    Inv-loop
+    μ-loop
+    number-at-requires
+    number-at-requires-2
+    loop-holds
+    part-at-requires
+    keeps-requires
+    put-record-at-requires
+    written-length-requires
+    add-to
+    size-at-requires
+    add-at
+    sub-left
+    loop-less
+    loop-again
+    same-length
+    returns)

@@ -1,0 +1,50 @@
+-- `keptrecords::put_contents` meets its contract. Assumes nothing.
+use mathlib.Core.Path.{_≡_, ap, _∙_}
+use native.Mathlib.Omega.{arith}
+use denote.Ref.{now}
+use lib.ListN.{length}
+use Rattle.fields.specs.Bytes.{Bytes, AllBytes, bytesOf}
+use Rattle.fields.specs.Text.{cut, padded}
+use Rattle.records.specs.Records.{Record, recordOf}
+use Rattle.keptrecords.proofs.RecordPartLaws.{sound, content-stored}
+use borrow.Author.Needs.{needs}
+use Rattle.keptrecords.proofs.put_contents.Statement.{statement}
+use Rattle.keptrecords.proofs.put_contents.Tie as tie
+
+payload-of-requires : tie.Need-payload-of-requires
+payload-of-requires c κs = search needs
+
+put-number-requires : tie.Need-put-number-requires
+put-number-requires c κs = search needs
+
+part-at-requires : tie.Need-part-at-requires
+part-at-requires c κs = search needs
+
+put-text-requires : tie.Need-put-text-requires
+put-text-requires c κs = search needs
+
+copy-requires : tie.Need-copy-requires
+copy-requires c κs = search needs
+
+same-length : tie.Need-same-length
+same-length c = search needs
+
+-- the description that is written is the record's
+description-is : (c : tie.After-part-at)
+    → padded 32 (cut (now (c .part-at .result))) ≡ padded 32 (recordOf 2 (now (c .before .before .before .before .before .before .before .before .before .args .vlr)) .description)
+unfolding recordOf
+description-is c = ap (λ (t : Bytes). padded 32 (cut t)) (c .part-at .ensures)
+
+returns : tie.Need-returns
+returns c =
+    let a = c .before .before .before .before .before .before .before .before .before .before .before .before .before .before .before .before .args in
+    let v = now (a .vlr) in
+    let bytes : AllBytes v = λ i. omega (arith, c .before .before .before .before .before .before .before .before .before .before .before .before .before .before .before .shared-slice-known .given i) in
+    let r : Record = recordOf 2 v in
+    let payload : now (c .before .before .before .before .before .before .before .before .before .before .before .before .before .payload-of .result) ≡ r .payload = c .before .before .before .before .before .before .before .before .before .before .before .before .before .payload-of .ensures in
+    c .before .before .copy .ensures
+    ∙ rw (c .before .before .before .before .before .before .put-text .ensures, c .before .before .before .before .before .before .before .before .before .before .before .put-number .ensures, description-is (c .before .before .before .before .before .before .before), payload) (content-stored (now (a .out)) r (sound v bytes))
+
+pub put-contents-spec : {M : Type 1} → statement M
+put-contents-spec =
+    tie.close (tie.spec payload-of-requires put-number-requires part-at-requires put-text-requires copy-requires same-length returns)

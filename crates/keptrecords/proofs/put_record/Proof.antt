@@ -1,0 +1,34 @@
+-- `keptrecords::put_record` meets its contract. Assumes nothing.
+use mathlib.Core.Path.{ap, _∙_}
+use native.Mathlib.Omega.{arith}
+use denote.Ref.{now}
+use lib.Seq.{sets}
+use Rattle.fields.specs.Bytes.{Bytes, AllBytes}
+use Rattle.records.specs.Records.{Record, recordOf}
+use Rattle.keptrecords.specs.RecordParts.{contentBytes}
+use Rattle.keptrecords.proofs.RecordPartLaws.{sound, record-stored}
+use borrow.Author.Needs.{needs}
+use Rattle.keptrecords.proofs.put_record.Statement.{statement}
+use Rattle.keptrecords.proofs.put_record.Tie as tie
+
+put-name-requires : tie.Need-put-name-requires
+put-name-requires c κs = search needs
+
+put-contents-requires : tie.Need-put-contents-requires
+put-contents-requires c κs = search needs
+
+same-length : tie.Need-same-length
+same-length c = search needs
+
+returns : tie.Need-returns
+returns c =
+    let a = c .before .before .before .before .before .before .before .before .before .before .args in
+    let v = now (a .vlr) in
+    let bytes : AllBytes v = λ i. omega (arith, c .before .before .before .before .before .before .before .before .before .shared-slice-known .given i) in
+    let r : Record = recordOf 2 v in
+    c .before .before .put-contents .ensures
+    ∙ ap (λ (o : Bytes). sets o 20 (contentBytes r)) (c .before .before .before .before .before .before .put-name .ensures)
+    ∙ record-stored (now (a .out)) r (sound v bytes)
+
+pub put-record-spec : {M : Type 1} → statement M
+put-record-spec = tie.close (tie.spec put-name-requires put-contents-requires same-length returns)

@@ -1,0 +1,36 @@
+-- `keptrecords::put_record_at` meets its contract. Assumes nothing.
+use mathlib.Core.Path.{sym}
+use native.Mathlib.Omega.{arith}
+use denote.Ref.{now}
+use Rattle.fields.proofs.StoreLaws.{sets-out, lent-back}
+use Rattle.records.specs.Records.{recordOf, recordBytes}
+use borrow.Author.Needs.{needs}
+use Rattle.keptrecords.proofs.put_record_at.Statement.{statement}
+use Rattle.keptrecords.proofs.put_record_at.Tie as tie
+
+returns : tie.Need-returns
+returns c = let a = c .before .before .before .args in sym (sets-out (now (a .out)) (a .to) (recordBytes 2 (recordOf 2 (now (a .vlr)))) (omega arith))
+
+sub-put-record : tie.Need-sub-put-record
+sub-put-record c = search needs
+
+part-put-record-start : tie.Need-part-put-record-start
+part-put-record-start c = search needs
+
+part-put-record-end : tie.Need-part-put-record-end
+part-put-record-end c = search needs
+
+put-record-requires : tie.Need-put-record-requires
+put-record-requires c κs = search needs
+
+same-length : tie.Need-same-length
+same-length c = search needs
+
+returns-2 : tie.Need-returns-2
+returns-2 c =
+    let a = c .before .before .before .before .before .before .before .args in
+    lent-back (now (a .out)) (c .before .before .put-record .last .1 .0) (a .to) (recordBytes 2 (recordOf 2 (now (a .vlr)))) (c .before .before .put-record .ensures)
+
+pub put-record-at-spec : {M : Type 1} → statement M
+put-record-at-spec =
+    tie.close (tie.spec returns sub-put-record part-put-record-start part-put-record-end put-record-requires same-length returns-2)
