@@ -1,3 +1,4 @@
 pub mod CountLaws
+pub mod Local
 pub mod RunLaws
 pub mod TallyLaws

@@ -68,13 +68,29 @@ fn with_point(t: Tally, n: u8, p: Stored) -> Tally
     requires { ⌜ CountsUpTo t 4294967295 ⌝ }
     ensures { λ r. ⌜ r ≡ tallyWith t n p ⌝ }
 {
-    let bins = t.bins;
-    let e = t.extremes;
     Tally {
         count: t.count + 1,
-        bins: binned(bins, n),
-        extremes: extremes::extended(e, p),
+        bins: binned(t.bins, n),
+        extremes: extremes::extended(t.extremes, p),
     }
+}
+
+// The thin function: the tally is lent, and one point is added in place.
+fn count_point(t: &mut Tally, n: u8, p: Stored)
+    requires { ⌜ CountsUpTo (now t) 4294967295 ⌝ }
+    ensures { λ _. ⌜ now (t .exit) ≡ tallyWith (now (t .entry)) n p ⌝ }
+{
+    *t = with_point(*t, n, p);
+}
+
+// A tally of one's own, lent for one point.
+fn step(t: Tally, n: u8, p: Stored) -> Tally
+    requires { ⌜ CountsUpTo t 4294967295 ⌝ }
+    ensures { λ r. ⌜ r ≡ tallyWith t n p ⌝ }
+{
+    let mut u = t;
+    count_point(&mut u, n, p);
+    u
 }
 
 // The tally with the point of these bytes, where it is kept.
@@ -84,10 +100,9 @@ fn add_if(t: Tally, point: &[u8], keep: bool) -> Tally
     ensures { λ r. ⌜ r ≡ talliedIf keep t (now (point .entry)) ⌝ }
 {
     if keep {
-        with_point(t, point[14] % 8, stored::stored_of(point))
-    } else {
-        t
+        return step(t, point[14] % 8, stored::stored_of(point));
     }
+    t
 }
 
 // The tally of the kept points of a run that holds them all.
@@ -124,8 +139,7 @@ pub fn tally_points(run: &[u8], record_length: usize, count: usize, table: [bool
     ensures { λ r. ⌜ r ≡ keptTally table count «record_length» (now (run .entry)) ⌝ }
 {
     if holds(run.len(), record_length, count) {
-        tally_run(run, record_length, count, table)
-    } else {
-        fresh()
+        return tally_run(run, record_length, count, table);
     }
+    fresh()
 }

@@ -18,15 +18,15 @@ tally-run-requires c κs =
     let a = c .before .before .before .args in
     in-run (a .count) (a .record-length) (length (a .run .now)) (sym (c .before .holds .ensures) ∙ c .if1 .taken)
 
-fresh-requires : tie.Need-fresh-requires
-fresh-requires c κs = search needs
-
 returns : tie.Need-returns
 unfolding keptTally tallyIf
 returns c =
     let a = c .before .before .before .before .args in
     c .tally-run .ensures
     ∙ ap (λ (b : Bool). tallyIf b (kept (inTable (a .table)) (pieces (a .count) (a .record-length) (a .run .now)))) (sym (c .before .if1 .taken) ∙ c .before .before .holds .ensures)
+
+fresh-requires : tie.Need-fresh-requires
+fresh-requires c κs = search needs
 
 returns-2 : tie.Need-returns-2
 unfolding keptTally tallyIf
@@ -36,4 +36,4 @@ returns-2 c =
     ∙ ap (λ (b : Bool). tallyIf b (kept (inTable (a .table)) (pieces (a .count) (a .record-length) (a .run .now)))) (sym (c .before .if1 .left) ∙ c .before .before .holds .ensures)
 
 pub tally-points-spec : {M : Type 1} → statement M
-tally-points-spec = tie.close (tie.spec holds-requires tally-run-requires fresh-requires returns returns-2)
+tally-points-spec = tie.close (tie.spec holds-requires tally-run-requires returns fresh-requires returns-2)
