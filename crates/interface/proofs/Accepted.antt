@@ -29,8 +29,8 @@ use Rattle.recordanswers.specs.RecordAnswers.{recordFields, noRecord, recordNum
 use Rattle.pointanswers.specs.PointAnswers.{pointFields, noPoint, pointNumbers, decodedNumbers}
 use Rattle.headeranswers.specs.HeaderAnswers.{headerFields, noHeader, headerNumbers}
 use Rattle.capi.specs.Interface.{lasCheckFile, lasCheckSheet, lasReadHeader, lasVlrStep, lasPointAt, lasDecode, lasEncode, lasClassKept, lasRecordKept, lasGeokeyFind, lasRelease}
-use Rattle.acceptance.specs.Accepted.{passes, hasFields, hasRecord, hasPoint, isDecoded, isFound, isReleased, isZero, ZeroWhereAccepted}
-use Rattle.acceptance.proofs.NumberLaws.{Numbered, AboveZero, first-numbered, then-numbered, file-numbered, sheet-numbered}
+use Rattle.interface.specs.Accepted.{passes, hasFields, hasRecord, hasPoint, isDecoded, isFound, isReleased, isZero, ZeroWhereAccepted}
+use Rattle.interface.proofs.NumberLaws.{Numbered, AboveZero, first-numbered, then-numbered, file-numbered, sheet-numbered}
 
 -- ---- an answer that a verdict decides
 

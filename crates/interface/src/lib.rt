@@ -1,0 +1,1 @@
+// Theorems about the interface of crate `capi`: specs/ states them, proofs/ proves them. No code.
