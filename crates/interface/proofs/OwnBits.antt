@@ -3,7 +3,7 @@
 use mathlib.Core.Path.{_≡_, refl, ap, _∙_}
 use Prim.Native.Nat.{ℕ}
 use mathlib.Core.List.{List, [], _∷_}
-use Rattle.fields.specs.Bytes.{Bytes, AllBytes, part, num}
+use Rattle.fields.specs.Bytes.{Bytes, AllBytes}
 use Rattle.fields.specs.declared.Verdict.the-variants.{Passes}
 use Rattle.coordinates.specs.Axes.{Axis, X, Y, Z, scaleOf, offsetOf, scalePlace, offsetPlace}
 use Rattle.coordinates.specs.Statements.{Carried}
@@ -23,17 +23,19 @@ read file e = rw e refl
 three : {a b c x y z : ℕ} → a ≡ x → b ≡ y → c ≡ z → _≡_ {A = List ℕ} (a ∷ b ∷ c ∷ []) (x ∷ y ∷ z ∷ [])
 three p q r i = p i ∷ q i ∷ r i ∷ []
 
-module _ (file : Bytes) (h : AllBytes file) (e : fileVerdict file ≡ Passes) where
-  by-bits : (axis : Axis) → Carried file axis
-  by-bits = carried file h (passed file e .scaled)
-
-  scales : lasReadHeader file .scale ≡ num (part 131 8 file) ∷ num (part 139 8 file) ∷ num (part 147 8 file) ∷ []
-  unfolding headerFields headerOf scaleNumbers scaleOf scalePlace
-  scales = ap (λ (r : «las_header»). r .scale) (read file e) ∙ three (by-bits X .scale-bits) (by-bits Y .scale-bits) (by-bits Z .scale-bits)
-
-  offsets : lasReadHeader file .offset ≡ num (part 155 8 file) ∷ num (part 163 8 file) ∷ num (part 171 8 file) ∷ []
-  unfolding headerFields headerOf offsetNumbers offsetOf offsetPlace
-  offsets = ap (λ (r : «las_header»). r .offset) (read file e) ∙ three (by-bits X .offset-bits) (by-bits Y .offset-bits) (by-bits Z .offset-bits)
+by-bits : (file : Bytes) → AllBytes file → fileVerdict file ≡ Passes → (axis : Axis) → Carried file axis
+by-bits file h e = carried file h (passed file e .scaled)
 
 pub own-bits : OwnBits
-own-bits = record { scales = scales; offsets = offsets }
+unfolding headerFields headerOf scaleNumbers offsetNumbers scaleOf offsetOf scalePlace offsetPlace
+own-bits =
+    record {
+      scales =
+          λ file h e.
+          let by = by-bits file h e in
+          ap (λ (r : «las_header»). r .scale) (read file e) ∙ three (by X .scale-bits) (by Y .scale-bits) (by Z .scale-bits);
+      offsets =
+          λ file h e.
+          let by = by-bits file h e in
+          ap (λ (r : «las_header»). r .offset) (read file e) ∙ three (by X .offset-bits) (by Y .offset-bits) (by Z .offset-bits);
+    }
