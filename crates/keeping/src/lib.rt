@@ -1,17 +1,10 @@
-// Which classes and records a keep sheet keeps.
+// Which classes and records a keep sheet keeps, by its lines alone.
 ghost use mathlib.Core.Path.{_≡_};
 ghost use Rattle.fields.specs.Lists.{some};
 ghost use Rattle.fields.specs.Text.{cut};
-ghost use Rattle.sheet.specs.Sheet.{lines, sheetVerdict};
-ghost use Rattle.keeping.specs.Keeping.{containsClass, namesRecord, keepsClass, keepsRecord, keptUnder};
+ghost use Rattle.sheet.specs.Sheet.{lines};
+ghost use Rattle.keeping.specs.Keeping.{containsClass, namesRecord, keepsClass, keepsRecord};
 ghost use Rattle.keeping.specs.Search.{lineKeeps};
-
-// What a sheet says of a class or a record; its number, where the sheet fails.
-pub enum Kept {
-    Yes,
-    No,
-    Refused(u64),
-}
 
 // What is looked for on a sheet: a class, or a record's ID beside its user ID.
 enum Sought {
@@ -84,28 +77,4 @@ pub fn holds_record(sheet: &[u8], user: &[u8], id: u16) -> bool
     ensures { λ r. ⌜ r ≡ keepsRecord (now (sheet .entry)) (cut (now (user .entry))) id ⌝ }
 {
     some_line_keeps(sheet, Sought::Record(id), user)
-}
-
-// The number of a sheet that fails, else whether something is kept.
-fn answer(verdict: fields::Verdict, kept: bool) -> Kept
-    ensures { λ r. ⌜ r ≡ keptUnder verdict kept ⌝ }
-{
-    match verdict {
-        fields::Verdict::Fails(number) => Kept::Refused(number),
-        fields::Verdict::Passes => { if kept { Kept::Yes } else { Kept::No } }
-    }
-}
-
-// Checks the sheet, and says whether it keeps a class.
-pub fn class_kept(sheet: &[u8], class: u8) -> Kept
-    ensures { λ r. ⌜ r ≡ keptUnder (sheetVerdict (now (sheet .entry))) (keepsClass (now (sheet .entry)) class) ⌝ }
-{
-    answer(sheet::check_sheet(sheet), holds_class(sheet, class))
-}
-
-// Checks the sheet, and says whether it keeps a record.
-pub fn record_kept(sheet: &[u8], user: &[u8], id: u16) -> Kept
-    ensures { λ r. ⌜ r ≡ keptUnder (sheetVerdict (now (sheet .entry))) (keepsRecord (now (sheet .entry)) (cut (now (user .entry))) id) ⌝ }
-{
-    answer(sheet::check_sheet(sheet), holds_record(sheet, user, id))
 }

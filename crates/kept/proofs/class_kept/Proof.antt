@@ -1,8 +1,8 @@
--- `keeping::class_kept` meets its contract. Assumes nothing.
+-- `kept::class_kept` meets its contract. Assumes nothing.
 use mathlib.Core.Path.{_∙_}
 use borrow.Author.Needs.{needs}
-use Rattle.keeping.proofs.class_kept.Statement.{statement}
-use Rattle.keeping.proofs.class_kept.Tie as tie
+use Rattle.kept.proofs.class_kept.Statement.{statement}
+use Rattle.kept.proofs.class_kept.Tie as tie
 
 check-sheet-requires : tie.Need-check-sheet-requires
 check-sheet-requires c κs = search needs

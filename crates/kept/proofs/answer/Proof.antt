@@ -1,8 +1,8 @@
--- `keeping::answer` meets its contract. Assumes nothing.
+-- `kept::answer` meets its contract. Assumes nothing.
 use borrow.Author.Needs.{needs}
-use Rattle.keeping.specs.Keeping.{keptUnder}
-use Rattle.keeping.proofs.answer.Statement.{statement}
-use Rattle.keeping.proofs.answer.Tie as tie
+use Rattle.kept.specs.Answers.{keptUnder}
+use Rattle.kept.proofs.answer.Statement.{statement}
+use Rattle.kept.proofs.answer.Tie as tie
 
 enum-known-verdict : tie.Need-enum-known-verdict
 enum-known-verdict c = search needs
