@@ -2,8 +2,8 @@
 -- Assumes nothing.
 use Rattle.publicpart.specs.declared.Answer.{Answer}
 use Rattle.publicpart.specs.Release.{numbers}
-use Rattle.keeping.specs.declared.Kept.{Kept}
-use Rattle.keeping.specs.declared.Kept.the-variants.{Yes, No, Refused}
+use Rattle.kept.specs.declared.Kept.{Kept}
+use Rattle.kept.specs.declared.Kept.the-variants.{Yes, No, Refused}
 use Rattle.answers.specs.declared.«las_released».{«las_released»}
 use Rattle.answers.specs.declared.«las_kept».{«las_kept»}
 

@@ -62,12 +62,12 @@ pub fn released_of(answer: publicpart::Answer) -> las_released
 }
 
 // The numbers of what a sheet says of a class or a record.
-pub fn kept_of(kept: keeping::Kept) -> las_kept
+pub fn kept_of(kept: kept::Kept) -> las_kept
     ensures { λ r. ⌜ r ≡ keptNumbers kept ⌝ }
 {
     match kept {
-        keeping::Kept::Yes => las_kept { number: 0, kept: 1 },
-        keeping::Kept::No => las_kept { number: 0, kept: 0 },
-        keeping::Kept::Refused(number) => las_kept { number, kept: 0 },
+        kept::Kept::Yes => las_kept { number: 0, kept: 1 },
+        kept::Kept::No => las_kept { number: 0, kept: 0 },
+        kept::Kept::Refused(number) => las_kept { number, kept: 0 },
     }
 }

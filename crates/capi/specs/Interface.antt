@@ -14,7 +14,8 @@ use Rattle.header.specs.Header.{headerRead}
 use Rattle.cursor.specs.Steps.{stepOf}
 use Rattle.onepoint.specs.OnePoint.{pointAtOf}
 use Rattle.sheet.specs.Sheet.{sheetVerdict}
-use Rattle.keeping.specs.Keeping.{keepsClass, keepsRecord, keptUnder}
+use Rattle.keeping.specs.Keeping.{keepsClass, keepsRecord}
+use Rattle.kept.specs.Answers.{keptUnder}
 use Rattle.geokeys.specs.GeoKeys.{lookup}
 use Rattle.publicpart.specs.Release.{release}
 use Rattle.answers.specs.Answers.{releasedNumbers, keptNumbers}

@@ -20,7 +20,7 @@ use Rattle.cursor.specs.declared.RecordPlaces.{RecordPlaces}
 use Rattle.cursor.specs.declared.VlrCursor.{VlrCursor}
 use Rattle.onepoint.specs.OnePoint.{pointChecks, pointIf, pointAtOf}
 use Rattle.sheet.specs.Sheet.{sheetVerdict}
-use Rattle.keeping.specs.Keeping.{keptUnder}
+use Rattle.kept.specs.Answers.{keptUnder}
 use Rattle.geokeys.specs.GeoKeys.{directoryChecks, entryChecks, doubleChecks, textChecks, answerIf, either, doubleIn, textIn, inParameters, fromEntry, fromDirectory, lookup, locationOf, payloadAt, entryOf, projectionPlace}
 use Rattle.geokeys.specs.declared.GeoKey.{GeoKey}
 use Rattle.publicpart.specs.Release.{Outcome, numbers, refuseOr, shortOr, accepted, roomOr, release}
