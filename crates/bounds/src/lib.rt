@@ -19,6 +19,5 @@ pub fn bounds_of(t: Tally, s: Scaling) -> Bounds
             min_z: 0,
         };
     }
-    let extremes = t.extremes;
-    s.bounds(extremes)
+    s.bounds(t.extremes)
 }

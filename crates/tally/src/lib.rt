@@ -1,10 +1,12 @@
 // The running tally of counts and stored extremes is one record, updated point by point.
 ghost use mathlib.Core.Path.{_≡_};
-ghost use Prim.Native.Nat.{_*_, _<_, _≤_};
+ghost use Prim.Native.Nat.{_+_, _*_, _<_, _≤_};
 ghost use mathlib.Core.List.{foldl};
 ghost use lib.ListN.{length};
+ghost use lib.Dec.{eqb};
 ghost use Rattle.fields.specs.Lists.{kept};
 ghost use Rattle.fields.specs.Bytes.{pieces};
+ghost use Rattle.points.specs.Points.{bit};
 ghost use Rattle.tally.specs.Tally.{noTally, binsWith, tallyWith, tallied, talliedIf, inTable, inRun, keptTally, BinsUpTo, CountsUpTo};
 use scaling::Extremes;
 use stored::Stored;
@@ -49,17 +51,25 @@ fn fresh() -> Tally
     }
 }
 
+// The count of a bin with one return number more.
+fn counted(count: u64, n: u8, bin: u8) -> u64
+    requires { ⌜ count ≤ 4294967295 ⌝ }
+    ensures { λ r. ⌜ r ≡ count + bit (eqb n bin) ⌝ }
+{
+    count + (n == bin) as u64
+}
+
 // The bins with one return number more.
 fn binned(b: Bins, n: u8) -> Bins
     requires { ⌜ BinsUpTo b 4294967295 ⌝ }
     ensures { λ r. ⌜ r ≡ binsWith b n ⌝ }
 {
     Bins {
-        first: b.first + (n == 1) as u64,
-        second: b.second + (n == 2) as u64,
-        third: b.third + (n == 3) as u64,
-        fourth: b.fourth + (n == 4) as u64,
-        fifth: b.fifth + (n == 5) as u64,
+        first: counted(b.first, n, 1),
+        second: counted(b.second, n, 2),
+        third: counted(b.third, n, 3),
+        fourth: counted(b.fourth, n, 4),
+        fifth: counted(b.fifth, n, 5),
     }
 }
 

@@ -20,8 +20,8 @@ bounds-requires c κs = search needs
 returns-2 : tie.Need-returns-2
 unfolding tallyBounds boundsUnless
 returns-2 c =
-    let a = c .before .before .before .before .args in
-    c .bounds .ensures ∙ sym (ap (λ (b : Bool). boundsUnless b (boundsOf (a .s) (a .t .extremes))) (ne-eqb (a .t .count) 0 (c .before .before .if1 .left)))
+    let a = c .before .before .before .args in
+    c .bounds .ensures ∙ sym (ap (λ (b : Bool). boundsUnless b (boundsOf (a .s) (a .t .extremes))) (ne-eqb (a .t .count) 0 (c .before .if1 .left)))
 
 pub bounds-of-spec : {M : Type 1} → statement M
 bounds-of-spec = tie.close (tie.spec returns bounds-requires returns-2)
