@@ -75,9 +75,9 @@ pub record Measuring (sheet s : Bytes) (left at count size : ℕ) : Type 0 where
   pub place : Low at left
   pub low : Low size left
 
-pub measuring-begins : (sheet s : Bytes) → AllBytes s → Measuring sheet s (recordCount s) (headerSize s) 0 0
-measuring-begins sheet s bytes =
-    record {
+pub measuring-begins : (sheet s : Bytes) → AllBytes s → (left at : ℕ) → left ≡ recordCount s → at ≡ headerSize s → Measuring sheet s left at 0 0
+measuring-begins sheet s bytes left at l a =
+    rw (l, a) record {
       counted = omega (arith, ap length (rest-all sheet s));
       summed = omega (arith, ap (total (recordLen 2)) (rest-all sheet s));
       few = omega (arith, few-records s bytes);
@@ -128,9 +128,9 @@ pub record Copying (sheet s out₀ out : Bytes) (left at to : ℕ) : Type 0 wher
   pub place : Low at left
   pub low : Low to left
 
-pub copying-begins : (sheet s out : Bytes) → AllBytes s → Copying sheet s out out (recordCount s) (headerSize s) 227
-copying-begins sheet s out bytes =
-    record {
+pub copying-begins : (sheet s out : Bytes) → AllBytes s → (left at : ℕ) → left ≡ recordCount s → at ≡ headerSize s → Copying sheet s out out left at 227
+copying-begins sheet s out bytes left at l a =
+    rw (l, a) record {
       whole = ap (λ (rs : List Record). sets out 227 (recordsBytes 2 rs)) (rest-all sheet s);
       same = refl;
       place = omega (arith, few-records s bytes, low-start s bytes);

@@ -1,9 +1,9 @@
 -- Laws of a record that bytes begin with, whether or not it is whole: it can be written, and the two parts make it up.
 -- Assumes nothing.
 use mathlib.Core.Path.{_≡_, refl, _∙_}
-use Prim.Native.Nat.{ℕ, _+_, _^_, _≤_, _<_}
+use Prim.Native.Nat.{_^_, _<_}
 use native.Mathlib.Omega.{arith}
-use mathlib.Core.List.{[], _++_, append-assoc, append-nil}
+use mathlib.Core.List.{_++_, append-assoc, append-nil}
 use lib.ListN.{length, length-append}
 use lib.Seq.{sets}
 use Rattle.fields.specs.Bytes.{Bytes, AllBytes, bytesOf, zeros, join}

@@ -1,6 +1,6 @@
 -- `assembly::write` meets its contract. Assumes nothing.
 use mathlib.Core.Path.{_≡_, sym, ap, _∙_}
-use Prim.Native.Nat.{ℕ, _-_}
+use Prim.Native.Nat.{_-_}
 use native.Mathlib.Omega.{arith}
 use mathlib.Core.List.{_++_}
 use denote.Ref.{now}
@@ -23,17 +23,16 @@ use borrow.Author.Needs.{needs}
 use Rattle.assembly.proofs.write.Statement.{statement}
 use Rattle.assembly.proofs.write.Tie as tie
 
--- the totals that are written are those of the tally
-totals-are : (c : tie.After-bounds-of)
-    → let a = c .before .before .before .before .before .before .before .args in
-    _≡_ {A = Totals}
-    (record { offset = a .start; records = a .records; points = a .tally .count; bins = a .tally .bins; bounds = c .bounds-of .result })
-    (totalsOf (now (a .file)) (a .tally) (a .records) (a .start))
+-- the header is written from the tally
+head-stored : (c : tie.After-put-head)
+    → let a = c .before .before .before .before .before .before .before .before .before .args in
+    c .put-head .last .1 .1 .0 ≡ sets (now (a .out)) 0 (headBytes (now (a .file)) (totalsOf (now (a .file)) (a .tally) (a .records) (a .start)))
 unfolding totalsOf
-totals-are c =
-    let a = c .before .before .before .before .before .before .before .args in
-    ap (λ (b : Bounds). record { offset = a .start; records = a .records; points = a .tally .count; bins = a .tally .bins; bounds = b })
-    (c .bounds-of .ensures ∙ ap (tallyBounds (a .tally)) (c .before .read .ensures))
+head-stored c =
+    let a = c .before .before .before .before .before .before .before .before .before .args in
+    let said : Bounds → Totals = λ b. record { offset = a .start; records = a .records; points = a .tally .count; bins = a .tally .bins; bounds = b } in
+    let written : c .put-head .last .1 .1 .0 ≡ sets (now (a .out)) 0 (headBytes (now (a .file)) (said (c .before .before .bounds-of .result))) = c .put-head .ensures in
+    written ∙ ap (λ (b : Bounds). sets (now (a .out)) 0 (headBytes (now (a .file)) (said b))) (c .before .before .bounds-of .ensures ∙ ap (tallyBounds (a .tally)) (c .before .before .before .read .ensures))
 
 -- the points that are copied are those of the file
 points-are : (c : tie.After-part-at)
@@ -55,8 +54,10 @@ points-stored : (c : tie.After-slice-known4)
 points-stored c =
     let a = c .before .before .before .before .before .before .before .before .before .before .before .before .before .before .before .before .before .before .before .before .before .before .before .args in
     let o : Bytes = c .before .before .before .before .before .before .before .before .before .before .copy-records .last .1 .1 .0 in
-    lent-back o (c .before .before .copy-points .last .1 .1 .1 .1 .0) (a .start) (pointsBytes (a .table) (now (a .file)))
-    (c .before .before .copy-points .ensures ∙ ap (sets (take (length o - a .start) (drop (a .start) o)) 0) (points-are (c .before .before .before .before)))
+    let lent : Bytes = take (length o - a .start) (drop (a .start) o) in
+    let copied : c .before .before .copy-points .last .1 .1 .1 .1 .0 ≡ sets lent 0 (join (keptPoints (a .table) (c .before .before .before .before .before .number-at3 .result) (c .before .before .before .before .before .before .number-at2 .result) (now (c .before .before .before .before .part-at .result)))) =
+    c .before .before .copy-points .ensures in
+    lent-back o (c .before .before .copy-points .last .1 .1 .1 .1 .0) (a .start) (pointsBytes (a .table) (now (a .file))) (copied ∙ ap (sets lent 0) (points-are (c .before .before .before .before)))
 
 returns : tie.Need-returns
 returns c =
@@ -112,13 +113,15 @@ returns-2 c =
     let s = now (a .file) in
     let out = now (a .out) in
     let t : Totals = totalsOf s (a .tally) (a .records) (a .start) in
-    let head : c .before .before .before .before .before .before .before .before .before .before .before .before .before .before .before .before .before .before .put-head .last .1 .1 .0 ≡ sets out 0 (headBytes s t) =
-    c .before .before .before .before .before .before .before .before .before .before .before .before .before .before .before .before .before .before .put-head .ensures ∙ ap (λ (u : Totals). sets out 0 (headBytes s u)) (totals-are (c .before .before .before .before .before .before .before .before .before .before .before .before .before .before .before .before .before .before .before .before)) in
-    let records : c .before .before .before .before .before .before .before .before .before .before .before .before .before .before .copy-records .last .1 .1 .0 ≡ sets (sets out 0 (headBytes s t)) 227 (recordsBytes 2 (publicOf (now (a .sheet)) s .records)) =
-    c .before .before .before .before .before .before .before .before .before .before .before .before .before .before .copy-records .ensures ∙ ap (λ (o : Bytes). sets o 227 (recordsBytes 2 (publicOf (now (a .sheet)) s .records))) head in
-    let all = points-stored (c .before .before .before .before) ∙ ap (λ (o : Bytes). sets o (a .start) (pointsBytes (a .table) s)) records in
-    let zeroed = c .before .before .zero .ensures ∙ ap (λ (o : Bytes). sets o (a .end) (zeros (length o))) all in
-    zeroed ∙ put-together (now (a .sheet)) s (a .table) t (a .end) out (c .before .before .before .before .before .before .before .before .before .before .before .before .before .before .before .before .before .before .before .before .before .before .before .if1 .left)
+    let o : Bytes = c .before .before .before .before .before .before .before .before .before .before .before .before .before .before .copy-records .last .1 .1 .0 in
+    let records : o ≡ sets (sets out 0 (headBytes s t)) 227 (recordsBytes 2 (publicOf (now (a .sheet)) s .records)) =
+    c .before .before .before .before .before .before .before .before .before .before .before .before .before .before .copy-records .ensures ∙ ap (λ (h : Bytes). sets h 227 (recordsBytes 2 (publicOf (now (a .sheet)) s .records))) (head-stored (c .before .before .before .before .before .before .before .before .before .before .before .before .before .before .before .before .before .before)) in
+    let back : Bytes = take (a .start) o ++ (c .before .before .before .before .before .before .copy-points .last .1 .1 .1 .1 .0 ++ drop (length o - a .start) (drop (a .start) o)) in
+    let all : back ≡ three (now (a .sheet)) s (a .table) t (a .end) out = points-stored (c .before .before .before .before) ∙ ap (λ (r : Bytes). sets r (a .start) (pointsBytes (a .table) s)) records in
+    let zeroed : c .before .before .zero .last .0 ≡ sets back (a .end) (zeros (length back)) = c .before .before .zero .ensures in
+    zeroed
+    ∙ ap (λ (r : Bytes). sets r (a .end) (zeros (length r))) all
+    ∙ put-together (now (a .sheet)) s (a .table) t (a .end) out (c .before .before .before .before .before .before .before .before .before .before .before .before .before .before .before .before .before .before .before .before .before .before .before .if1 .left)
 
 pub write-spec : {M : Type 1} → statement M
 write-spec =

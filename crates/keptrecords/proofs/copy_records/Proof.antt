@@ -1,24 +1,17 @@
 -- `keptrecords::copy_records` meets its contract. The loop's invariant: what the records still to walk make of the output is what all make of it.
 -- Assumes nothing.
-use mathlib.Core.Path.{_≡_, sym, ap, _∙_}
+use mathlib.Core.Path.{sym, ap, _∙_}
 use mathlib.Core.Logic.{⊎-elim}
 use native.Mathlib.Omega.{arith}
 use borrow.Author.Needs.{needs}
-use Prim.Native.Nat.{ℕ}
-use lib.ListN.{drop}
 use lib.Seq.{sets}
-use Rattle.fields.specs.Bytes.{Bytes, AllBytes, part, num}
+use Rattle.fields.specs.Bytes.{Bytes, AllBytes}
 use Rattle.records.specs.Records.{recordOf, recordLen, recordBytes}
 use Rattle.lasfile.specs.FileChecks.{recordCount, headerSize}
 use Rattle.publicpart.specs.Public.{keptRecord}
 use Rattle.keptrecords.proofs.KeptLaws.{from-place, Copying, copying-begins, copying-kept, copying-past, copying-ends}
 use Rattle.keptrecords.proofs.copy_records.Statement.{statement}
 use Rattle.keptrecords.proofs.copy_records.Tie as tie
-
-unfold-counts : (sheet s out : Bytes) (left at : ℕ) → left ≡ num (part 100 4 s) → at ≡ num (part 94 2 s) → Copying sheet s out out (recordCount s) (headerSize s) 227
-    → Copying sheet s out out left at 227
-unfolding recordCount headerSize
-unfold-counts sheet s out left at l a m = rw (l, a) m
 
 abbrev Inv-loop : tie.InvT-loop
 Inv-loop file sheet out₀ at₀ left₀ to₀ out at left to = AllBytes file × Copying sheet file out₀ out left at to
@@ -33,11 +26,12 @@ number-at-requires-2 : tie.Need-number-at-requires-2 Inv-loop μ-loop
 number-at-requires-2 c κs = search needs
 
 loop-holds : tie.Need-loop-holds Inv-loop μ-loop
+unfolding recordCount headerSize
 loop-holds c =
     let a = c .before .before .before .before .before .args in
     let bytes : AllBytes (a .file .now) = λ i. omega (arith, c .before .before .before .before .shared-slice-known .given i) in (
       bytes,
-      unfold-counts (a .sheet .now) (a .file .now) (a .out .now) _ _ (c .number-at2 .ensures .0) (c .before .number-at .ensures .0) (copying-begins (a .sheet .now) (a .file .now) (a .out .now) bytes),
+      copying-begins (a .sheet .now) (a .file .now) (a .out .now) bytes _ _ (c .number-at2 .ensures .0) (c .before .number-at .ensures .0),
     )
 
 part-at-requires : tie.Need-part-at-requires Inv-loop μ-loop

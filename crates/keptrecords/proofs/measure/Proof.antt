@@ -1,23 +1,16 @@
 -- `keptrecords::measure` meets its contract. The loop's invariant: the records still to walk make up what is missing of the sums.
 -- Assumes nothing.
-use mathlib.Core.Path.{_≡_, sym, ap, _∙_}
+use mathlib.Core.Path.{sym, ap, _∙_}
 use mathlib.Core.Logic.{⊎-elim}
 use native.Mathlib.Omega.{arith}
 use borrow.Author.Needs.{needs}
-use Prim.Native.Nat.{ℕ}
-use lib.ListN.{drop}
-use Rattle.fields.specs.Bytes.{Bytes, AllBytes, part, num}
+use Rattle.fields.specs.Bytes.{Bytes, AllBytes}
 use Rattle.records.specs.Records.{recordOf, recordLen}
 use Rattle.lasfile.specs.FileChecks.{recordCount, headerSize}
 use Rattle.publicpart.specs.Public.{keptRecord}
 use Rattle.keptrecords.proofs.KeptLaws.{from-place, Measuring, measuring-begins, measuring-kept, measuring-past, measuring-ends}
 use Rattle.keptrecords.proofs.measure.Statement.{statement}
 use Rattle.keptrecords.proofs.measure.Tie as tie
-
-unfold-counts : (sheet s : Bytes) (left at : ℕ) → left ≡ num (part 100 4 s) → at ≡ num (part 94 2 s) → Measuring sheet s (recordCount s) (headerSize s) 0 0
-    → Measuring sheet s left at 0 0
-unfolding recordCount headerSize
-unfold-counts sheet s left at l a m = rw (l, a) m
 
 abbrev Inv-loop : tie.InvT-loop
 Inv-loop file sheet at₀ left₀ count₀ length₀ at left count length = AllBytes file × Measuring sheet file left at count length
@@ -32,11 +25,12 @@ number-at-requires-2 : tie.Need-number-at-requires-2 Inv-loop μ-loop
 number-at-requires-2 c κs = search needs
 
 loop-holds : tie.Need-loop-holds Inv-loop μ-loop
+unfolding recordCount headerSize
 loop-holds c =
     let a = c .before .before .before .before .args in
     let bytes : AllBytes (a .file .now) = λ i. omega (arith, c .before .before .before .shared-slice-known .given i) in (
       bytes,
-      unfold-counts (a .sheet .now) (a .file .now) _ _ (c .number-at2 .ensures .0) (c .before .number-at .ensures .0) (measuring-begins (a .sheet .now) (a .file .now) bytes),
+      measuring-begins (a .sheet .now) (a .file .now) bytes _ _ (c .number-at2 .ensures .0) (c .before .number-at .ensures .0),
     )
 
 part-at-requires : tie.Need-part-at-requires Inv-loop μ-loop

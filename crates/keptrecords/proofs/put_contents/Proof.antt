@@ -3,7 +3,7 @@ use mathlib.Core.Path.{_≡_, ap, _∙_}
 use native.Mathlib.Omega.{arith}
 use denote.Ref.{now}
 use lib.ListN.{length}
-use Rattle.fields.specs.Bytes.{Bytes, AllBytes, bytesOf}
+use Rattle.fields.specs.Bytes.{Bytes, AllBytes}
 use Rattle.fields.specs.Text.{cut, padded}
 use Rattle.records.specs.Records.{Record, recordOf}
 use Rattle.keptrecords.proofs.RecordPartLaws.{sound, content-stored}

@@ -1,6 +1,5 @@
 -- `keptrecords::put_name` meets its contract. Assumes nothing.
 use mathlib.Core.Path.{_≡_, ap, _∙_}
-use Prim.Native.Nat.{ℕ}
 use native.Mathlib.Omega.{arith}
 use denote.Ref.{now}
 use Rattle.fields.specs.Bytes.{Bytes, AllBytes, bytesOf}
