@@ -21,7 +21,7 @@ pub fn class_table(sheet: &[u8]) -> [bool; 256]
 }
 
 fn wide(b: u8) -> usize
-    ensures { λ r. ⌜ r ≡ b ⌝ }
+    ensures { λ r. ⌜ (r ≡ b) × (r < 256) ⌝ }
 {
     b as usize
 }

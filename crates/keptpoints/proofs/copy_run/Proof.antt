@@ -94,7 +94,7 @@ wide-requires : tie.Need-wide-requires Inv-loop μ-loop
 wide-requires c κs = search needs
 
 array-read-if1 : tie.Need-array-read-if1 Inv-loop μ-loop
-array-read-if1 c = omega (arith, c .wide .ensures, c .before .shared-slice-known2 .given (c .before .before .before .loop .at + 15))
+array-read-if1 c = c .wide .ensures .1
 
 part-at-requires : tie.Need-part-at-requires Inv-loop μ-loop
 part-at-requires c κs = search needs
@@ -118,7 +118,7 @@ loop-again : tie.Need-loop-again Inv-loop μ-loop
 loop-again c =
     let a = c .before .before .before .before .before .before .before .args in
     let l = c .before .before .before .before .loop in
-    let looked = looked-at (a .t4) (now (a .run)) (l .at) (a .record-length) _ (c .before .before .before .before .before .before .before .pre .0) (c .before .wide .ensures) in
+    let looked = looked-at (a .t4) (now (a .run)) (l .at) (a .record-length) _ (c .before .before .before .before .before .before .before .pre .0) (c .before .wide .ensures .0) in
     ⊎-elim
     (λ w. rw (w .6, w .7) (next-kept _ _ _ _ _ _ (l .left) (l .at) (l .to) (omega arith) (l .inv) _ (w .3 .ensures ∙ ap (sets (l .out) (l .to)) (w .1 .ensures)) (w .3 .kept .1 .0) (sym looked ∙ w .0 .taken)))
     (λ w. rw (w .1, w .2) (next-past _ _ _ _ _ _ (l .left) (l .at) (l .to) (omega arith) (l .inv) (sym looked ∙ w .0 .left)))
