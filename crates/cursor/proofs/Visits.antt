@@ -1,4 +1,4 @@
--- Stepping from (0, header size) visits exactly the records of the definition, in order, and then gives 18.
+-- Stepping visits the records of a file, in order.
 -- Assumes nothing.
 use mathlib.Core.Path.{_≡_, sym, ap, _∙_, subst}
 use Prim.Native.Nat.{ℕ, zero, suc, _+_, _≤_}
@@ -15,30 +15,26 @@ use Rattle.fields.specs.declared.Verdict.the-variants.{Passes}
 use Rattle.fields.proofs.ByteLaws.{part-drop, part-part}
 use Rattle.fields.proofs.TextLaws.{cut-front, length-cut}
 use Rattle.fields.proofs.ByteLaws.{length-part-le}
-use Rattle.records.specs.Records.{recordAt, recordOf, sizeOf, payloadLength, places, walkEnd}
+use Rattle.records.specs.Records.{recordOf, sizeOf, payloadLength, places, walkEnd}
 use Rattle.records.proofs.RecordLaws.{walk-grows, walkEnd-step}
 use Rattle.lasfile.specs.FileChecks.{headerSize, pointOffset, recordCount, recordsEnd, fileVerdict}
 use Rattle.cursor.specs.Steps.{recordPlaces, nextCursor, stepOf, collect, visited}
+use Rattle.cursor.specs.Visits.{cursor, Means, Visits}
 use Rattle.cursor.specs.declared.RecordPlaces.{RecordPlaces}
-use Rattle.cursor.specs.declared.VlrCursor.{VlrCursor}
 use Rattle.cursor.specs.declared.Step.{Step}
 use Rattle.cursor.specs.declared.Step.the-variants.{Record, Refused}
 use Rattle.lasfile.proofs.Passed.{Passed, passed}
 use Rattle.cursor.proofs.StepLaws.{test, refused-18, answered}
 
-abbrev cursor : ℕ → ℕ → VlrCursor
-cursor index position = record { index = index; position = position }
-
 module _ (s : Bytes) (passes : fileVerdict s ≡ Passes) where
-  -- where no record is left, a step gives 18
-  pub ends-in-18 : (position : ℕ) → stepOf s (recordCount s) position ≡ Refused 18
+  ends-in-18 : (position : ℕ) → stepOf s (recordCount s) position ≡ Refused 18
   ends-in-18 position = refused-18 s (recordCount s) position passes (inl (le-ltb (recordCount s) (recordCount s) (omega arith)))
 
   -- k records are left, and they lie before the points
-  pub record Left (k index position : ℕ) : Type 0 where
-    pub counted : index + k ≡ recordCount s
-    pub behind : headerSize s ≤ position
-    pub before : walkEnd 2 k position s ≤ pointOffset s
+  record Left (k index position : ℕ) : Type 0 where
+    counted : index + k ≡ recordCount s
+    behind : headerSize s ≤ position
+    before : walkEnd 2 k position s ≤ pointOffset s
 
   clear : (k index position : ℕ) → Left (suc k) index position → Clear (test s index position)
   clear k index position l = (
@@ -71,20 +67,13 @@ module _ (s : Bytes) (passes : fileVerdict s ≡ Passes) where
       (ap (λ (t : Step). collect t (visited (k + suc m) s)) (step-is k index position l)
       ∙ ap (λ (r : List RecordPlaces). recordPlaces s position ∷ r) (visits-left k m (index + 1) (position + sizeOf 2 (drop position s)) (left-next k index position l)))
 
-  -- the theorem: with at least one step more than there are records
-  pub visits : (m : ℕ) → visited (recordCount s + suc m) s (cursor 0 (headerSize s)) ≡ map (recordPlaces s) (places 2 (recordCount s) (headerSize s) s)
+  visits : (m : ℕ) → visited (recordCount s + suc m) s (cursor 0 (headerSize s)) ≡ map (recordPlaces s) (places 2 (recordCount s) (headerSize s) s)
   unfolding recordsEnd
   visits m =
       let p : Passed s = passed s passes in
       visits-left (recordCount s) m 0 (headerSize s) (record { counted = omega arith; behind = omega arith; before = p .walked })
 
--- ---- what a record's places mean: its parts are the record's own
-
-pub record Means (s : Bytes) (at : ℕ) (r : RecordPlaces) : Type 0 where
-  pub user : part (r .«user_place») (r .«user_length») s ≡ recordAt 2 s at .user
-  pub id : r .«record_id» ≡ recordAt 2 s at .id
-  pub description : part (r .«description_place») (r .«description_length») s ≡ recordAt 2 s at .description
-  pub payload : part (r .«payload_place») (r .«payload_length») s ≡ recordAt 2 s at .payload
+-- ---- what a record's places mean
 
 -- a text's cut, at its place in the file
 text-at : (s : Bytes) (at shift w : ℕ) → part (at + shift) (length (cut (part (at + shift) w s))) s ≡ cut (part shift w (drop at s))
@@ -95,7 +84,7 @@ text-at s at shift w =
     let inner : part 0 (length (cut t)) t ≡ part (at + shift) (length (cut t)) s = part-part (at + shift) w 0 (length (cut t)) s fits ∙ rw e in
     sym inner ∙ cut-front t ∙ ap cut (sym (part-drop at shift w s))
 
-pub places-mean : (s : Bytes) (at : ℕ) → Means s at (recordPlaces s at)
+places-mean : (s : Bytes) (at : ℕ) → Means s at (recordPlaces s at)
 unfolding recordPlaces recordOf
 places-mean s at =
     record {
@@ -104,3 +93,6 @@ places-mean s at =
       description = text-at s at 22 32;
       payload = sym (part-drop at 54 (payloadLength 2 (drop at s)) s);
     }
+
+pub stepping : Visits
+stepping = record { visits = visits; ends-in-18 = ends-in-18; places-mean = places-mean }

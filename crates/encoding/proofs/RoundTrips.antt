@@ -1,4 +1,4 @@
--- Bytes come back from their fields, and fields from their bytes, in every format: `encode-after-decode` and `decode-after-encode`.
+-- Bytes come back from their fields, and fields from their bytes, in every format.
 -- Assumes nothing.
 use mathlib.Core.Path.{_≡_, refl, ap, _∙_}
 use Prim.Native.Nat.{ℕ, _+_, _≤_}
@@ -19,6 +19,7 @@ use Rattle.points.specs.declared.Decoded.the-variants.{Fields}
 use Rattle.points.specs.Points.{bits, pointOf, shape, decodeChecks, fieldsIf, decoded}
 use Rattle.shared.specs.Shared.{sharedFields}
 use Rattle.encoding.specs.Encoding.{timeFields, colourFields, pointBytes, large, encodeChecks, storedIf, encoded, blank, InRange}
+use Rattle.encoding.specs.RoundTrips.{RoundTrips}
 use Rattle.points.proofs.AnswerLaws.{accepted}
 use Rattle.encoding.proofs.AnswerLaws.{stored}
 use Rattle.encoding.proofs.LayoutLaws.{bytes-groups, length-bytes}
@@ -63,8 +64,7 @@ own-bytes f s room all le h same extra =
     rw (bytes-back f s all le h)
     (front-stored (take n s) room n (length-take-le n s h) (omega arith) ∙ rw extra (take-append-drop n s))
 
--- "Bytes come back from their fields": a record that is decoded and encoded over a room with the same extra bytes is the record again
-pub encode-after-decode : (f len : ℕ) (bytes room : Bytes) (q : Point) → AllBytes bytes → decoded f len bytes ≡ Fields q
+encode-after-decode : (f len : ℕ) (bytes room : Bytes) (q : Point) → AllBytes bytes → decoded f len bytes ≡ Fields q
     → length room ≡ length bytes → drop (formatSize f) room ≡ drop (formatSize f) bytes → encoded f len q room ≡ (Passes, bytes)
 encode-after-decode f len bytes room q all e same extra =
     let g : Clear (shape f len (length bytes)) × (pointOf f bytes ≡ q) = was-decoded f len bytes q e in
@@ -100,8 +100,7 @@ own-fields f q room r small le h =
     ∙ rw (bytes-groups f q, append-assoc shared (time ++ colour) rest, append-assoc time colour rest) in
     rw whole (fields-back f q rest r (small .0) (small .1))
 
--- "Fields come back from their bytes": a point that is encoded and decoded is the point again, with the fields that the format lacks at 0
-pub decode-after-encode : (f len : ℕ) (room : Bytes) (q : Point) → InRange q → encoded f len q room .0 ≡ Passes
+decode-after-encode : (f len : ℕ) (room : Bytes) (q : Point) → InRange q → encoded f len q room .0 ≡ Passes
     → decoded f len (encoded f len q room .1) ≡ Fields (blank f q)
 decode-after-encode f len room q r e =
     let g : Clear (shape f len (length room)) × Clear (large q) = was-encoded f len q room e in
@@ -110,3 +109,6 @@ decode-after-encode f len room q r e =
     let c : Clear (shape f len (length after)) = rw (length-sets room 0 (pointBytes f q)) (g .0) in
     rw (stored f len q room (unclear (shape f len (length room)) (g .0)) (unclear (large q) (g .1)))
     (accepted f len after (unclear (shape f len (length after)) c) ∙ ap Fields (own-fields f q room r (g .1) (k .format) (omega arith)))
+
+pub round-trips : RoundTrips
+round-trips = record { encode-after-decode = encode-after-decode; decode-after-encode = decode-after-encode }

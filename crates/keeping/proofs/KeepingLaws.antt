@@ -1,20 +1,19 @@
--- What a keep sheet keeps is what some line says; the empty sheet, and sample P3.
+-- What a keep sheet keeps is what some line says.
 -- Assumes nothing.
 use mathlib.Core.Path.{_≡_, refl, sym, subst}
 use mathlib.Core.Logic.{_↔_}
 use Prim.Native.Nat.{ℕ, _≤_}
 use native.Mathlib.Omega.{arith}
-use borrow.Author.Tests.{leb-true, leb-false, eqb-true, le-leb, eq-eqb, ne-eqb}
+use borrow.Author.Tests.{leb-true, eqb-true, le-leb, eq-eqb}
 use mathlib.Core.Bool.{Bool, true, false, _&&_, _||_, or-true, and-eq-true-iff}
 use mathlib.Core.List.{List, [], _∷_, List·Memᴰ, List·Memᴰ·head, List·Memᴰ·tail}
 use lib.Dec.{T, leb, eqb}
 use Rattle.fields.specs.declared.Verdict.the-variants.{Passes}
 use Rattle.fields.specs.Lists.{some}
-use Rattle.fields.specs.Bytes.{Bytes, part, same}
-use Rattle.fields.specs.Checks.{firstFailing, failIf, fails, then}
+use Rattle.fields.specs.Bytes.{Bytes, same}
 use Rattle.fields.proofs.ByteLaws.{same→eq, same-refl}
-use Rattle.sheet.specs.Sheet.{kind, lineLength, lowest, highest, userID, recordID, firstLine, afterLine, linesFrom, lines, inOrder, lineChecks, linesVerdict, sheetVerdict}
-use Rattle.sheet.proofs.SheetLaws.{p3}
+use Rattle.sheet.specs.Sheet.{kind, lowest, highest, userID, recordID, linesFrom, lines, linesVerdict, sheetVerdict}
+use Rattle.keeping.specs.Kept.{SomeLine, Kept}
 use Rattle.keeping.specs.Keeping.{containsClass, namesRecord, keepsClass, keepsRecord}
 
 -- ---- what a line says
@@ -26,7 +25,7 @@ all-three a b c e =
     (f .0, g .0, g .1)
 
 -- a line that contains a class is of kind 1, and the class is from its lowest to its highest
-pub contains-class : (l : Bytes) (c : ℕ) → (containsClass l c ≡ true) ↔ ((kind l ≡ 1) × (lowest l ≤ c) × (c ≤ highest l))
+contains-class : (l : Bytes) (c : ℕ) → (containsClass l c ≡ true) ↔ ((kind l ≡ 1) × (lowest l ≤ c) × (c ≤ highest l))
 unfolding containsClass
 contains-class l c = (
   λ e. let t = all-three (eqb (kind l) 1) (leb (lowest l) c) (leb c (highest l)) e in
@@ -45,7 +44,7 @@ eq-same : (x y : Bytes) → x ≡ y → same x y ≡ true
 eq-same x y e = rw e (T-true (same y y) (same-refl y))
 
 -- a line that names a record is of kind 2, with the record's cut user ID and its ID
-pub names-record : (l user : Bytes) (id : ℕ) → (namesRecord l user id ≡ true) ↔ ((kind l ≡ 2) × (userID l ≡ user) × (recordID l ≡ id))
+names-record : (l user : Bytes) (id : ℕ) → (namesRecord l user id ≡ true) ↔ ((kind l ≡ 2) × (userID l ≡ user) × (recordID l ≡ id))
 unfolding namesRecord
 names-record l user id = (
   λ e. let t = all-three (eqb (kind l) 2) (same (userID l) user) (eqb (recordID l) id) e in
@@ -54,12 +53,6 @@ names-record l user id = (
 )
 
 -- ---- what is kept: some line says so
-
--- a line of which P holds
-pub record SomeLine (ls : List Bytes) (P : Bytes → Type 0) : Type 0 where
-  pub line : Bytes
-  pub among : List·Memᴰ line ls
-  pub so : P line
 
 module _ (p : Bytes → Bool) (P : Bytes → Type 0) (says : (l : Bytes) → (p l ≡ true) ↔ P l) where
   pick : (l : Bytes) (ls : List Bytes) (b : Bool) → p l ≡ b → (b || some p ls) ≡ true → (some p ls ≡ true → SomeLine ls P) → SomeLine (l ∷ ls) P
@@ -79,38 +72,24 @@ module _ (p : Bytes → Bool) (P : Bytes → Type 0) (says : (l : Bytes) → (p 
   some-says : (ls : List Bytes) → (some p ls ≡ true) ↔ SomeLine ls P
   some-says ls = (some-line ls, λ w. line-some (w .line) ls (w .among) (says (w .line) .1 (w .so)))
 
--- a class is kept exactly if some kind 1 line of the sheet contains it
-pub keeps-class : (sheet : Bytes) (c : ℕ) → (keepsClass sheet c ≡ true) ↔ SomeLine (lines sheet) (λ l. (kind l ≡ 1) × (lowest l ≤ c) × (c ≤ highest l))
+keeps-class : (sheet : Bytes) (c : ℕ) → (keepsClass sheet c ≡ true) ↔ SomeLine (lines sheet) (λ l. (kind l ≡ 1) × (lowest l ≤ c) × (c ≤ highest l))
 unfolding keepsClass
 keeps-class sheet c = some-says (λ l. containsClass l c) (λ l. (kind l ≡ 1) × (lowest l ≤ c) × (c ≤ highest l)) (λ l. contains-class l c) (lines sheet)
 
--- a record is kept exactly if some kind 2 line of the sheet has its cut user ID and its ID
-pub keeps-record : (sheet user : Bytes) (id : ℕ)
+keeps-record : (sheet user : Bytes) (id : ℕ)
     → (keepsRecord sheet user id ≡ true) ↔ SomeLine (lines sheet) (λ l. (kind l ≡ 2) × (userID l ≡ user) × (recordID l ≡ id))
 unfolding keepsRecord
 keeps-record sheet user id =
     some-says (λ l. namesRecord l user id) (λ l. (kind l ≡ 2) × (userID l ≡ user) × (recordID l ≡ id)) (λ l. names-record l user id) (lines sheet)
 
--- what is kept depends on the lines alone
-pub same-lines : (s t : Bytes) → lines s ≡ lines t
+same-lines : (s t : Bytes) → lines s ≡ lines t
     → ((c : ℕ) → keepsClass s c ≡ keepsClass t c) × ((user : Bytes) (id : ℕ) → keepsRecord s user id ≡ keepsRecord t user id)
 unfolding keepsClass keepsRecord
 same-lines s t e = (λ c. rw e, λ user id. rw e)
 
--- ---- the empty sheet
-
-pub empty : (sheetVerdict [] ≡ Passes) × ((c : ℕ) → keepsClass [] c ≡ false) × ((user : Bytes) (id : ℕ) → keepsRecord [] user id ≡ false)
+empty : (sheetVerdict [] ≡ Passes) × ((c : ℕ) → keepsClass [] c ≡ false) × ((user : Bytes) (id : ℕ) → keepsRecord [] user id ≡ false)
 unfolding sheetVerdict linesVerdict keepsClass keepsRecord lines linesFrom some
 empty = (refl, λ c. refl, λ user id. refl)
 
--- ---- sample P3 of document 01
-
-two-alone : (c : ℕ) (a b : Bool) → leb 2 c ≡ a → leb c 2 ≡ b → (a && b || false) ≡ eqb c 2
-two-alone c true true e f = sym (eq-eqb c 2 (omega (arith, leb-true 2 c e, leb-true c 2 f)))
-two-alone c true false e f = sym (ne-eqb c 2 (λ q. omega (arith, leb-false c 2 f)))
-two-alone c false b e f = sym (ne-eqb c 2 (λ q. omega (arith, leb-false 2 c e)))
-
--- P3 passes, and keeps class 2 and nothing else
-pub sample-3 : (sheetVerdict p3 ≡ Passes) × ((c : ℕ) → keepsClass p3 c ≡ eqb c 2) × ((user : Bytes) (id : ℕ) → keepsRecord p3 user id ≡ false)
-unfolding sheetVerdict linesVerdict keepsClass keepsRecord containsClass namesRecord lines linesFrom some firstLine afterLine lineLength kind lowest highest lineChecks inOrder firstFailing failIf fails then same part
-sample-3 = (refl, λ c. two-alone c (leb 2 c) (leb c 2) refl refl, λ user id. refl)
+pub kept : Kept
+kept = record { class = keeps-class; entry = keeps-record; by-lines = same-lines; empty = empty }
