@@ -16,7 +16,7 @@ use Rattle.stored.specs.Stored.{storedOf}
 use Rattle.extremes.specs.Extremes.{largerOf, smallerOf, noExtremes, extremesWith}
 use Rattle.extremes.proofs.ExtremeLaws.{stored-fits, max-first, min-first}
 use Rattle.tally.specs.declared.Tally.{Tally}
-use Rattle.tally.specs.Tally.{noTally, tallyWith, tallied}
+use Rattle.tally.specs.Tally.{noTally, tallyWith, tallied, tallyOf}
 use Rattle.tally.proofs.TallyLaws.{tally-count}
 use Rattle.bounds.specs.Bounds.{zeroBounds, boundsUnless, tallyBounds}
 
@@ -31,7 +31,8 @@ module _ (axis : ℕ) (max : Tally → ℤ) (step : (t : Tally) (p : Bytes) → 
   max-from t [] = refl
   max-from t (p ∷ ps) = max-from (tallied t p) ps ∙ ap (λ (z : ℤ). largest z (map (stored axis) ps)) (step t p)
 
-  max-of : max noTally ≡ negsuc 2147483647 → (p : Bytes) (ps : List Bytes) → max (foldl tallied noTally (p ∷ ps)) ≡ largest (stored axis p) (map (stored axis) ps)
+  max-of : max noTally ≡ negsuc 2147483647 → (p : Bytes) (ps : List Bytes) → max (tallyOf (p ∷ ps)) ≡ largest (stored axis p) (map (stored axis) ps)
+  unfolding tallyOf
   max-of none p ps =
       max-from (tallied noTally p) ps
       ∙ ap (λ (z : ℤ). largest z (map (stored axis) ps)) (step noTally p ∙ ap (λ (z : ℤ). largerOf z (stored axis p)) none ∙ max-first (stored axis p) (fits axis p))
@@ -43,13 +44,14 @@ module _ (axis : ℕ) (min : Tally → ℤ) (step : (t : Tally) (p : Bytes) → 
   min-from t [] = refl
   min-from t (p ∷ ps) = min-from (tallied t p) ps ∙ ap (λ (z : ℤ). smallest z (map (stored axis) ps)) (step t p)
 
-  min-of : min noTally ≡ pos 2147483647 → (p : Bytes) (ps : List Bytes) → min (foldl tallied noTally (p ∷ ps)) ≡ smallest (stored axis p) (map (stored axis) ps)
+  min-of : min noTally ≡ pos 2147483647 → (p : Bytes) (ps : List Bytes) → min (tallyOf (p ∷ ps)) ≡ smallest (stored axis p) (map (stored axis) ps)
+  unfolding tallyOf
   min-of none p ps =
       min-from (tallied noTally p) ps
       ∙ ap (λ (z : ℤ). smallest z (map (stored axis) ps)) (step noTally p ∙ ap (λ (z : ℤ). smallerOf z (stored axis p)) none ∙ min-first (stored axis p) (fits axis p))
 
 -- the extremes of a first point and more
-tally-extremes : (p : Bytes) (ps : List Bytes) → foldl tallied noTally (p ∷ ps) .extremes ≡ extremesOf p ps
+tally-extremes : (p : Bytes) (ps : List Bytes) → tallyOf (p ∷ ps) .extremes ≡ extremesOf p ps
 unfolding extremesOf tallied tallyWith noTally noExtremes extremesWith storedOf
 tally-extremes p ps =
     let x-max = max-of 0 (λ t. t .extremes .«max_x») (λ t q. refl) refl p ps in
@@ -60,9 +62,9 @@ tally-extremes p ps =
     let z-min = min-of 2 (λ t. t .extremes .«min_z») (λ t q. refl) refl p ps in
     λ i. record { «max_x» = x-max i; «min_x» = x-min i; «max_y» = y-max i; «min_y» = y-min i; «max_z» = z-max i; «min_z» = z-min i }
 
-pub tally-bounds : (c : Scaling) (ps : List Bytes) → boundNumbers (tallyBounds (foldl tallied noTally ps) c) ≡ bounds c ps
+pub tally-bounds : (c : Scaling) (ps : List Bytes) → boundNumbers (tallyBounds (tallyOf ps) c) ≡ bounds c ps
 unfolding bounds tallyBounds boundsUnless
-tally-bounds c [] = unfold noTally boundNumbers zeroBounds in refl
+tally-bounds c [] = unfold tallyOf noTally boundNumbers zeroBounds in refl
 tally-bounds c (p ∷ ps) =
-    let some : eqb (foldl tallied noTally (p ∷ ps) .count) 0 ≡ false = ne-eqb (foldl tallied noTally (p ∷ ps) .count) 0 (λ e. omega (arith, e, tally-count (p ∷ ps))) in
+    let some : eqb (tallyOf (p ∷ ps) .count) 0 ≡ false = ne-eqb (tallyOf (p ∷ ps) .count) 0 (λ e. omega (arith, e, tally-count (p ∷ ps))) in
     rw (some, tally-extremes p ps)

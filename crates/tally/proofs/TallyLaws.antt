@@ -1,20 +1,19 @@
 -- Laws of the tally, over any list of points: its count is theirs, and its bins are those that the released header has of them. Assumes nothing.
-use mathlib.Core.Path.{_≡_, refl, sym, _∙_}
-use Prim.Native.Nat.{ℕ, _+_, _*_, _/_, _%_, _^_, _≤_, _<_}
+use mathlib.Core.Path.{_≡_, refl, _∙_}
+use Prim.Native.Nat.{ℕ, _+_, _/_, _%_, _^_}
 use native.Mathlib.Omega.{arith}
-use mathlib.Core.Bool.{Bool, true, false, _&&_, true≢false}
+use mathlib.Core.Bool.{Bool, true, false}
 use mathlib.Core.List.{List, [], _∷_, foldl}
 use lib.ListN.{length, getD}
-use lib.Dec.{eqb, ltb, leb}
-use borrow.Author.Tests.{ltb-true, leb-true, lt-ltb, le-leb}
+use lib.Dec.{eqb}
 use Rattle.fields.specs.Lists.{kept, consIf}
-use Rattle.fields.specs.Bytes.{Bytes, pieces}
+use Rattle.fields.specs.Bytes.{Bytes}
 use Rattle.points.specs.Points.{bit, bits}
 use Rattle.publicpart.specs.Bounds.{upFrom, returnOf, bins}
 use Rattle.stored.specs.Stored.{storedOf}
 use Rattle.stored.specs.declared.Stored.{Stored}
 use Rattle.tally.specs.declared.Tally.{Tally}
-use Rattle.tally.specs.Tally.{binsWith, binNumbers, noTally, tallyWith, tallied, inTable, tallyIf, inRun, keptTally}
+use Rattle.tally.specs.Tally.{binsWith, binNumbers, noTally, tallyWith, tallied, tallyOf}
 
 -- ---- one point
 
@@ -32,8 +31,8 @@ unfolding tallied tallyWith
 count-from t [] = omega arith
 count-from t (p ∷ ps) = omega (arith, count-from (tallied t p) ps)
 
-pub tally-count : (ps : List Bytes) → foldl tallied noTally ps .count ≡ length ps
-unfolding noTally
+pub tally-count : (ps : List Bytes) → tallyOf ps .count ≡ length ps
+unfolding tallyOf noTally
 tally-count ps = omega (arith, count-from noTally ps)
 
 -- ---- the bins
@@ -50,10 +49,11 @@ module _ (r : ℕ) (bin : Tally → ℕ) (step : (t : Tally) (p : Bytes) → bin
   bin-from t [] = omega arith
   bin-from t (p ∷ ps) = omega (arith, bin-from (tallied t p) ps, step t p, length-consIf (eqb (returnOf p) r) p (kept (λ p. eqb (returnOf p) r) ps))
 
-  bin-of : bin noTally ≡ 0 → (ps : List Bytes) → bin (foldl tallied noTally ps) ≡ length (kept (λ p. eqb (returnOf p) r) ps)
+  bin-of : bin noTally ≡ 0 → (ps : List Bytes) → bin (tallyOf ps) ≡ length (kept (λ p. eqb (returnOf p) r) ps)
+  unfolding tallyOf
   bin-of e ps = omega (arith, bin-from noTally ps)
 
-pub tally-bins : (ps : List Bytes) → binNumbers (foldl tallied noTally ps .bins) ≡ bins 5 ps
+pub tally-bins : (ps : List Bytes) → binNumbers (tallyOf ps .bins) ≡ bins 5 ps
 unfolding binNumbers bins upFrom noTally tallied tallyWith binsWith
 tally-bins ps =
     rw (
@@ -63,21 +63,3 @@ tally-bins ps =
       bin-of 4 (λ t. t .bins .fourth) (λ t p. refl) refl ps,
       bin-of 5 (λ t. t .bins .fifth) (λ t p. refl) refl ps,
     )
-
--- ---- a run that holds all the records
-
-pub all-where-held : (table : List Bool) (count len : ℕ) (run : Bytes) → 20 ≤ len → count < 2 ^ 32 → count * len ≤ length run
-    → keptTally table count len run ≡ foldl tallied noTally (kept (inTable table) (pieces count len run))
-unfolding keptTally inRun tallyIf
-all-where-held table count len run long few held = rw (le-leb 20 len long, lt-ltb count 4294967296 few, le-leb (count * len) (length run) held)
-
-both : (a b : Bool) → a && b ≡ true → (a ≡ true) × (b ≡ true)
-both true b e = (refl, e)
-both false b e = absurd (true≢false (sym e))
-
-pub in-run : (count len size : ℕ) → inRun count len size ≡ true → (20 ≤ len) × (count < 2 ^ 32) × (count * len ≤ size)
-unfolding inRun
-in-run count len size e =
-    let f = both (leb 20 len) (ltb count 4294967296 && leb (count * len) size) e in
-    let g = both (ltb count 4294967296) (leb (count * len) size) (f .1) in
-    (leb-true 20 len (f .0), ltb-true count 4294967296 (g .0), leb-true (count * len) size (g .1))

@@ -1,12 +1,9 @@
 -- The running tally of counts and stored extremes, updated point by point.
 -- Assumes nothing.
-use Prim.Native.Nat.{ℕ, _+_, _*_, _≤_}
-use mathlib.Core.Bool.{Bool, true, false, _&&_}
+use Prim.Native.Nat.{ℕ, _+_, _≤_}
 use mathlib.Core.List.{List, [], _∷_, foldl}
-use lib.ListN.{length, getD}
-use lib.Dec.{eqb, ltb, leb}
-use Rattle.fields.specs.Lists.{kept}
-use Rattle.fields.specs.Bytes.{Bytes, pieces}
+use lib.Dec.{eqb}
+use Rattle.fields.specs.Bytes.{Bytes}
 use Rattle.points.specs.Points.{bit}
 use Rattle.publicpart.specs.Bounds.{returnOf}
 use Rattle.stored.specs.Stored.{storedOf}
@@ -42,27 +39,9 @@ tallyWith t n p = record { count = t .count + 1; bins = binsWith (t .bins) n; ex
 unfoldable pub tallied : Tally → Bytes → Tally
 tallied t p = tallyWith t (returnOf p) (storedOf p)
 
--- and where it is kept
-unfoldable pub talliedIf : Bool → Tally → Bytes → Tally
-talliedIf true t p = tallied t p
-talliedIf false t p = t
-
--- whether a table of the classes keeps a point: a point's class is its classification byte
-unfoldable pub inTable : List Bool → Bytes → Bool
-inTable table p = getD table (getD p 15 0) false
-
--- the tally of points, or of none
-unfoldable pub tallyIf : Bool → List Bytes → Tally
-tallyIf true ps = foldl tallied noTally ps
-tallyIf false ps = noTally
-
--- records are of 20 bytes or more, below 2 ^ 32 in number, and all in a run of this size
-unfoldable pub inRun : ℕ → ℕ → ℕ → Bool
-inRun count len size = leb 20 len && (ltb count 4294967296 && leb (count * len) size)
-
--- the tally of those of the first `count` records of a run, `len` bytes each, that a table keeps
-unfoldable pub keptTally : List Bool → ℕ → ℕ → Bytes → Tally
-keptTally table count len run = tallyIf (inRun count len (length run)) (kept (inTable table) (pieces count len run))
+-- the tally of points
+unfoldable pub tallyOf : List Bytes → Tally
+tallyOf ps = foldl tallied noTally ps
 
 -- ---- what the code's helpers require: no count is above n
 

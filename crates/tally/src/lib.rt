@@ -1,13 +1,12 @@
 // The running tally of counts and stored extremes is one record, updated point by point.
 ghost use mathlib.Core.Path.{_≡_};
 ghost use Prim.Native.Nat.{_+_, _*_, _<_, _≤_};
-ghost use mathlib.Core.List.{foldl};
 ghost use lib.ListN.{length};
 ghost use lib.Dec.{eqb};
-ghost use Rattle.fields.specs.Lists.{kept};
 ghost use Rattle.fields.specs.Bytes.{pieces};
 ghost use Rattle.points.specs.Points.{bit};
-ghost use Rattle.tally.specs.Tally.{noTally, binsWith, tallyWith, tallied, talliedIf, inTable, inRun, keptTally, BinsUpTo, CountsUpTo};
+ghost use Rattle.pointruns.specs.PointRuns.{pointsOf};
+ghost use Rattle.tally.specs.Tally.{noTally, binsWith, tallyWith, tallied, tallyOf, BinsUpTo, CountsUpTo};
 use scaling::Extremes;
 use stored::Stored;
 
@@ -103,53 +102,38 @@ fn step(t: Tally, n: u8, p: Stored) -> Tally
     u
 }
 
-// The tally with the point of these bytes, where it is kept.
-fn add_if(t: Tally, point: &[u8], keep: bool) -> Tally
+// The tally with the point of these bytes.
+fn add_point(t: Tally, point: &[u8]) -> Tally
     requires { ⌜ CountsUpTo t 4294967295 ⌝ }
     requires { ⌜ 20 ≤ length (now point) ⌝ }
-    ensures { λ r. ⌜ r ≡ talliedIf keep t (now (point .entry)) ⌝ }
+    ensures { λ r. ⌜ r ≡ tallied t (now (point .entry)) ⌝ }
 {
-    if keep {
-        return step(t, point[14] % 8, stored::stored_of(point));
-    }
-    t
+    step(t, point[14] % 8, stored::stored_of(point))
 }
 
-// The tally of the kept points of a run that holds them all.
-fn tally_run(run: &[u8], record_length: usize, count: usize, table: [bool; 256]) -> Tally
+// The tally of the points of a run that holds them all.
+fn tally_run(run: &[u8], record_length: usize, count: usize) -> Tally
     requires { ⌜ (20 ≤ «record_length») × (count < 4294967296) × (count * «record_length» ≤ length (now run)) ⌝ }
-    ensures { λ r. ⌜ r ≡ foldl tallied noTally (kept (inTable table) (pieces count «record_length» (now (run .entry)))) ⌝ }
+    ensures { λ r. ⌜ r ≡ tallyOf (pieces count «record_length» (now (run .entry))) ⌝ }
 {
     let mut t = fresh();
     let mut at = 0;
     let mut left = count;
     while 0 < left {
         let next = at + record_length;
-        let class = run[at + 15] as usize;
-        t = add_if(t, &run[at..next], table[class]);
+        t = add_point(t, &run[at..next]);
         at = next;
         left -= 1;
     }
     t
 }
 
-// Whether records of 20 bytes or more, fewer than 2^32 of them, all lie in `size` bytes.
-fn holds(size: usize, record_length: usize, count: usize) -> bool
-    ensures { λ r. ⌜ r ≡ inRun count «record_length» size ⌝ }
+// The tally of the first `count` records of `run`, `record_length` bytes each; of no point where the run does not hold them.
+pub fn tally_points(run: &[u8], record_length: usize, count: usize) -> Tally
+    ensures { λ r. ⌜ r ≡ tallyOf (pointsOf count «record_length» (now (run .entry))) ⌝ }
 {
-    if record_length < 20 {
-        return false;
-    }
-    (count < 4294967296) & (count <= size / record_length)
-}
-
-// The tally of those of the first `count` records of `run`, `record_length` bytes each, whose class the table keeps; of no point where a record is under 20 bytes,
-// there are 2^32 records or more, or the run does not hold them all.
-pub fn tally_points(run: &[u8], record_length: usize, count: usize, table: [bool; 256]) -> Tally
-    ensures { λ r. ⌜ r ≡ keptTally table count «record_length» (now (run .entry)) ⌝ }
-{
-    if holds(run.len(), record_length, count) {
-        return tally_run(run, record_length, count, table);
+    if pointruns::holds(run.len(), record_length, count) {
+        return tally_run(run, record_length, count);
     }
     fresh()
 }
