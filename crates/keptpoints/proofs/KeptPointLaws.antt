@@ -1,31 +1,21 @@
 -- Laws of the kept points of a run: one that holds all the records, and one that does not.
 -- Assumes nothing.
 use mathlib.Core.Path.{_≡_}
-use Prim.Native.Nat.{ℕ, _*_, _≤_, _<_}
-use borrow.Author.Tests.{lt-ltb, le-ltb, le-leb, lt-leb}
-use mathlib.Core.Bool.{Bool}
+use Prim.Native.Nat.{ℕ}
+use mathlib.Core.Bool.{Bool, false}
 use mathlib.Core.List.{List, []}
 use lib.ListN.{length}
 use Rattle.fields.specs.Lists.{kept}
 use Rattle.fields.specs.Bytes.{Bytes, pieces}
-use Rattle.tally.specs.Tally.{inTable, inRun}
-use Rattle.keptpoints.specs.KeptPoints.{pointsIf, keptPoints}
+use Rattle.pointruns.specs.PointRuns.{inRun}
+use Rattle.pointruns.proofs.RunLaws.{Held, points-held, points-none}
+use Rattle.keptpoints.specs.KeptPoints.{inTable, keptPoints}
 
-module _ (table : List Bool) (count len : ℕ) (run : Bytes) where
-  pub none-where-short : len < 20 → keptPoints table count len run ≡ []
-  unfolding keptPoints inRun pointsIf
-  none-where-short short = rw (lt-leb 20 len short)
+pub kept-held : (table : List Bool) (count len : ℕ) (run : Bytes) → Held count len (length run)
+    → keptPoints table count len run ≡ kept (inTable table) (pieces count len run)
+unfolding keptPoints
+kept-held table count len run h = rw (points-held count len run h)
 
-  module _ (long : 20 ≤ len) where
-    pub none-where-many : 4294967296 ≤ count → keptPoints table count len run ≡ []
-    unfolding keptPoints inRun pointsIf
-    none-where-many many = rw (le-leb 20 len long, le-ltb count 4294967296 many)
-
-    module _ (few : count < 4294967296) where
-      pub none-where-cut : length run < count * len → keptPoints table count len run ≡ []
-      unfolding keptPoints inRun pointsIf
-      none-where-cut cut = rw (le-leb 20 len long, lt-ltb count 4294967296 few, lt-leb (count * len) (length run) cut)
-
-      pub all-where-held : count * len ≤ length run → keptPoints table count len run ≡ kept (inTable table) (pieces count len run)
-      unfolding keptPoints inRun pointsIf
-      all-where-held held = rw (le-leb 20 len long, lt-ltb count 4294967296 few, le-leb (count * len) (length run) held)
+pub kept-none : (table : List Bool) (count len : ℕ) (run : Bytes) → inRun count len (length run) ≡ false → keptPoints table count len run ≡ []
+unfolding keptPoints kept
+kept-none table count len run e = rw (points-none count len run e)

@@ -1,1 +1,3 @@
 pub mod KeptPointLaws
+mod FrontLaws
+mod LoopLaws
