@@ -1,49 +1,48 @@
 -- A released file as it is put together in the output.
 -- Assumes nothing.
-use Prim.Native.Nat.{ℕ}
-use mathlib.Core.Bool.{Bool, true, false}
-use mathlib.Core.List.{List}
-use lib.ListN.{length, drop}
-use lib.Dec.{leb}
+use Prim.Native.Nat.{ℕ, _-_}
+use mathlib.Core.Bool.{Bool}
+use mathlib.Core.List.{List, _++_}
+use lib.ListN.{length, take, drop}
 use lib.Seq.{sets}
 use Rattle.fields.specs.Bytes.{Bytes, join, zeros}
 use Rattle.records.specs.Records.{recordsBytes}
 use Rattle.scaling.specs.Scaling.{scalingOf}
 use Rattle.lasfile.specs.FileChecks.{pointOffset, pointCount, recordLength}
+use Rattle.pointruns.specs.PointRuns.{pointsOf}
 use Rattle.publicpart.specs.Public.{publicOf}
-use Rattle.bounds.specs.Bounds.{tallyBounds}
 use Rattle.tally.specs.declared.Tally.{Tally}
+use Rattle.tally.specs.Tally.{tallyOf}
+use Rattle.bounds.specs.Bounds.{tallyBounds}
 use Rattle.heads.specs.declared.Totals.{Totals}
 use Rattle.heads.specs.Heads.{headBytes}
 use Rattle.keptpoints.specs.KeptPoints.{keptPoints}
 
+-- the bytes of the points of a file that a table keeps
+unfoldable pub pointsBytes : List Bool → Bytes → Bytes
+pointsBytes table s = join (keptPoints table (pointCount s) (recordLength s) (drop (pointOffset s) s))
+
+-- from a place on the kept points, and zeros behind them to the end
+unfoldable pub withPoints : List Bool → Bytes → ℕ → Bytes → Bytes
+withPoints table s start out = take start out ++ take (length out - start) (pointsBytes table s ++ zeros (length out - start))
+
 -- what the header says of a tally, of a number of records and of the new point offset
 unfoldable pub totalsOf : Bytes → Tally → ℕ → ℕ → Totals
-totalsOf s t records offset =
+totalsOf s t records start =
     record {
-      offset = offset;
+      offset = start;
       records = records;
       points = t .count;
       bins = t .bins;
       bounds = tallyBounds t (scalingOf s);
     }
 
--- the bytes of the points of a file that a table keeps
-unfoldable pub pointsBytes : List Bool → Bytes → Bytes
-pointsBytes table s = join (keptPoints table (pointCount s) (recordLength s) (drop (pointOffset s) s))
+-- the header, of the points that stand in an output from a place on
+unfoldable pub withHead : Bytes → ℕ → ℕ → ℕ → Bytes → Bytes
+withHead s points records start out =
+    sets out 0 (headBytes s (totalsOf s (tallyOf (pointsOf points (recordLength s) (drop start out))) records start))
 
--- header, kept records, kept points from the new point offset on, and zeros from the end of the released file on, each stored at its place
-unfoldable pub stored : Bytes → Bytes → List Bool → Totals → ℕ → Bytes → Bytes
-stored sheet s table t end out =
-    sets
-    (sets (sets (sets out 0 (headBytes s t)) 227 (recordsBytes 2 (publicOf sheet s .records))) (t .offset) (pointsBytes table s))
-    end
-    (zeros (length out))
-
-unfoldable pub outIf : Bool → Bytes → Bytes → Bytes
-outIf true new out = new
-outIf false new out = out
-
--- an output that does not reach the new point offset is left as it is
-unfoldable pub written : Bytes → Bytes → List Bool → Totals → ℕ → Bytes → Bytes
-written sheet s table t end out = outIf (leb (t .offset) (length out)) (stored sheet s table t end out) out
+-- kept records directly after the header, kept points from the new point offset on with zeros behind them, and the header of these
+unfoldable pub written : Bytes → Bytes → List Bool → ℕ → ℕ → ℕ → Bytes → Bytes
+written sheet s table points records start out =
+    withHead s points records start (withPoints table s start (sets out 227 (recordsBytes 2 (publicOf sheet s .records))))

@@ -1,38 +1,20 @@
-// A released file, put together in the output: header, kept records, kept points, and zeros behind them.
+// A released file, put together in the output: kept records, kept points and zeros behind them, and the header of these.
 ghost use mathlib.Core.Path.{_≡_};
-ghost use Rattle.assembly.specs.Assembly.{totalsOf, written};
+ghost use lib.ListN.{drop};
+ghost use Rattle.lasfile.specs.FileChecks.{recordLength};
+ghost use Rattle.pointruns.specs.PointRuns.{pointsOf};
+ghost use Rattle.tally.specs.Tally.{tallyOf};
+ghost use Rattle.assembly.specs.Assembly.{withPoints, totalsOf, withHead, written};
 use fields::numbers::number_at;
-use tally::Tally;
+use heads::Totals;
 
-// Writes the released file and zeros the rest: header, kept records, kept points to the part of the output that starts at the new point offset `start`.
-// The file has `records` kept records, its kept points have this tally, and it ends at `end`. An output that does not reach `start` is left as it is.
-pub fn write(
-    file: &[u8],
-    sheet: &[u8],
-    table: [bool; 256],
-    tally: Tally,
-    records: usize,
-    start: usize,
-    end: usize,
-    out: &mut [u8],
-)
-    ensures { λ _. ⌜ now (out .exit) ≡ written (now (sheet .entry)) (now (file .entry)) table (totalsOf (now (file .entry)) tally records start) end (now (out .entry)) ⌝ }
+// Lends the output from the new point offset `start` on to the copier of the kept points, which zeros the rest. An output that does not reach it is left as it is.
+fn put_points(file: &[u8], table: [bool; 256], start: usize, out: &mut [u8])
+    ensures { λ _. ⌜ now (out .exit) ≡ withPoints table (now (file .entry)) start (now (out .entry)) ⌝ }
 {
     if out.len() < start {
         return;
     }
-    let points = tally.count;
-    let bins = tally.bins;
-    let bounds = bounds::bounds_of(tally, scaling::Scaling::read(file));
-    let totals = heads::Totals {
-        offset: start as u64,
-        records: records as u64,
-        points,
-        bins,
-        bounds,
-    };
-    heads::put_head(file, totals, out);
-    keptrecords::copy_records(file, sheet, out);
     let offset = number_at(file, 96, 4) as usize;
     let record_length = number_at(file, 105, 2) as usize;
     let count = number_at(file, 107, 4) as usize;
@@ -43,5 +25,48 @@ pub fn write(
         table,
         &mut out[start..],
     );
-    runs::zero(out, end, out.len());
+}
+
+// What the header says of `records` records and of the `points` points that stand in the output from `start` on.
+fn totals_of(file: &[u8], points: usize, records: usize, start: usize, out: &[u8]) -> Totals
+    ensures { λ r. ⌜ r ≡ totalsOf (now (file .entry)) (tallyOf (pointsOf points (recordLength (now (file .entry))) (drop start (now (out .entry))))) records start ⌝ }
+{
+    let record_length = number_at(file, 105, 2) as usize;
+    let run = runs::part_at(out, start, out.len());
+    let tally = tally::tally_points(run, record_length, points);
+    let bins = tally.bins;
+    let bounds = bounds::bounds_of(tally, scaling::Scaling::read(file));
+    Totals {
+        offset: start as u64,
+        records: records as u64,
+        points: tally.count,
+        bins,
+        bounds,
+    }
+}
+
+// Writes the header, of the points as they stand in the output.
+fn put_header(file: &[u8], points: usize, records: usize, start: usize, out: &mut [u8])
+    ensures { λ _. ⌜ now (out .exit) ≡ withHead (now (file .entry)) points records start (now (out .entry)) ⌝ }
+{
+    let totals = totals_of(file, points, records, start, out);
+    heads::put_head(file, totals, out);
+}
+
+// Writes the released file and zeros the rest: `records` kept records after the header, `points` kept points from the new point offset `start` on, and last the
+// header, since it counts the points where they stand.
+pub fn write(
+    file: &[u8],
+    sheet: &[u8],
+    table: [bool; 256],
+    points: usize,
+    records: usize,
+    start: usize,
+    out: &mut [u8],
+)
+    ensures { λ _. ⌜ now (out .exit) ≡ written (now (sheet .entry)) (now (file .entry)) table points records start (now (out .entry)) ⌝ }
+{
+    keptrecords::copy_records(file, sheet, out);
+    put_points(file, table, start, out);
+    put_header(file, points, records, start, out);
 }

@@ -1,18 +1,17 @@
--- What is written one behind the other is the released file and zeros, and the numbers that are returned are the public part's.
+-- What is written of a file that passes is the released file and zeros, and the numbers that are returned are the public part's.
 -- Assumes nothing.
 use mathlib.Core.Path.{_≡_, refl, sym, ap, _∙_}
 use mathlib.Core.Bool.{Bool}
 use Prim.Native.Nat.{ℕ, _+_, _-_, _*_, _^_, _≤_, _<_}
 use native.Mathlib.Omega.{arith}
-use mathlib.Core.List.{List, [], _∷_, _++_, append-assoc, foldl}
-use lib.ListN.{length, drop, getD, length-append, length-drop, length-replicate, replicate-append-replicate}
-use lib.Seq.{sets, length-sets, getD-drop}
+use mathlib.Core.List.{List, [], _∷_, _++_, append-assoc}
+use lib.ListN.{length, take, drop, getD, length-append, length-drop, length-replicate, replicate-append-replicate}
+use lib.Seq.{sets, sets-eq, length-sets, length-take-le, getD-drop, take-at, drop-at, take-append-add}
 use Rattle.fields.specs.Lists.{All, total}
 use Rattle.fields.specs.Bytes.{Bytes, AllBytes, zeros, join, pieces}
 use Rattle.fields.specs.declared.Verdict.the-variants.{Passes}
-use Rattle.fields.proofs.ByteLaws.{num-part-lt, pieces-bytes, length-join-pieces}
+use Rattle.fields.proofs.ByteLaws.{num-part-lt, pieces-bytes, pieces-back, length-join-pieces}
 use Rattle.fields.proofs.ListLaws.{kept-same}
-use Rattle.fields.proofs.StoreLaws.{sets-append, store-behind, sets-out, sets-all}
 use Rattle.formats.specs.Formats.{classOf}
 use Rattle.formats.proofs.FormatLaws.{shared-first}
 use Rattle.scaling.specs.Scaling.{scalingIn, scalingOf}
@@ -22,10 +21,11 @@ use Rattle.records.proofs.RecordLaws.{length-recordsBytes}
 use Rattle.lasfile.specs.FileChecks.{pointOffset, pointCount, recordLength, format, fileVerdict}
 use Rattle.lasfile.proofs.Passed.{passed}
 use Rattle.keeping.specs.Keeping.{keepsPoint}
-use Rattle.tally.specs.Tally.{inTable, tallied, noTally, keptTally, binNumbers}
+use Rattle.pointruns.specs.PointRuns.{pointsOf}
+use Rattle.pointruns.proofs.RunLaws.{Held, points-held}
+use Rattle.tally.specs.Tally.{tallyOf}
+use Rattle.tally.proofs.TallyLaws.{tally-count, tally-bins}
 use Rattle.bounds.specs.Bounds.{tallyBounds}
-use Rattle.tally.specs.declared.Tally.{Tally}
-use Rattle.tally.proofs.TallyLaws.{tally-count, tally-bins, all-where-held}
 use Rattle.bounds.proofs.BoundsLaws.{tally-bounds}
 use Rattle.publicpart.specs.Bounds.{bins, bounds, boundNumbers}
 use Rattle.publicpart.specs.Public.{Public, carriedOf, contents, restrict, publicOf}
@@ -40,18 +40,26 @@ use Rattle.heads.specs.Heads.{headWith, headBytes}
 use Rattle.heads.proofs.HeadLaws.{whole-head}
 use Rattle.keptrecords.specs.declared.KeptRecords.{KeptRecords}
 use Rattle.keptrecords.specs.KeptRecords.{measured}
-use Rattle.keptpoints.specs.KeptPoints.{TableOf, keptPoints}
-use Rattle.keptpoints.proofs.KeptPointLaws as points-law
-use Rattle.assembly.specs.Assembly.{totalsOf, pointsBytes, stored, written}
-use Rattle.assembly.proofs.WrittenLaws.{reached}
+use Rattle.keptpoints.specs.KeptPoints.{TableOf, inTable, keptPoints}
+use Rattle.keptpoints.proofs.KeptPointLaws.{kept-held}
+use Rattle.assembly.specs.Assembly.{totalsOf, pointsBytes, withPoints, withHead, written}
 
--- zeros to the end of a list, and beyond it
-zeros-to-end : (d : Bytes) (at n : ℕ) → length d ≡ n → at ≤ n → sets d at (zeros n) ≡ sets d at (zeros (n - at))
-zeros-to-end d at n e h =
-    let in-two : zeros n ≡ zeros (n - at) ++ zeros at =
-    let k : n - at + at ≡ n = omega arith in sym (replicate-append-replicate (n - at) at 0 ∙ ap zeros k) in
-    let past : length (sets d at (zeros (n - at))) ≤ at + length (zeros (n - at)) = rw (length-sets, length-replicate {A = ℕ} (n - at) 0) (omega arith) in
-    ap (sets d at) in-two ∙ sets-append d at (zeros (n - at)) (zeros at) ∙ sets-out (sets d at (zeros (n - at))) (at + length (zeros (n - at))) (zeros at) past
+-- zeros behind a run, as far as there is room
+zeros-behind : (xs : Bytes) (k : ℕ) → length xs ≤ k → take k (xs ++ zeros k) ≡ xs ++ zeros (k - length xs)
+zeros-behind xs k h =
+    let n : ℕ = k - length xs in
+    let in-two : zeros k ≡ zeros n ++ zeros (length xs) =
+    let e : n + length xs ≡ k = omega arith in sym (replicate-append-replicate n (length xs) 0 ∙ ap zeros e) in
+    let room : k ≡ length xs + n = omega arith in
+    ap (λ (j : ℕ). take j (xs ++ zeros k)) room
+    ∙ take-append-add xs (zeros k) n
+    ∙ ap (λ (r : Bytes). xs ++ r) (ap (take n) in-two ∙ take-at (zeros n) (zeros (length xs)) n (length-replicate n 0))
+
+-- a front, stored over
+over-front : (x y h : Bytes) → length x ≡ length h → sets (x ++ y) 0 h ≡ h ++ y
+over-front x y h e =
+    let z : 0 + length h ≡ length h = omega arith in
+    sets-eq h (x ++ y) 0 (omega (arith, length-append x y)) ∙ rw z (ap (λ (r : Bytes). h ++ r) (drop-at x y (length h) e))
 
 module _ (sheet s : Bytes) (bytes : AllBytes s) (passes : fileVerdict s ≡ Passes) where
   abbrev part-of : Public
@@ -113,8 +121,38 @@ module _ (sheet s : Bytes) (bytes : AllBytes s) (passes : fileVerdict s ≡ Pass
   unfolding pointCount
   few = num-part-lt 107 4 s bytes
 
-  held : pointCount s * recordLength s ≤ length run
-  held = simp length-drop (omega (arith, passed s passes .pointed))
+  -- ---- the header is that of the public part's points
+
+  abbrev own : Totals
+  own = totalsOf s (tallyOf (part-of .points)) (length (part-of .records)) (newOffset part-of)
+
+  head-is : headWith s own ≡ headOf part-of
+  unfolding headWith headOf totalsOf tallyOf
+  head-is =
+      let ps : List Bytes = part-of .points in
+      let count = tally-count ps in
+      let bs = tally-bins ps in
+      let bounded : boundNumbers (tallyBounds (tallyOf ps) (scalingOf s)) ≡ bounds (scalingIn (part-of .carried .scaling)) ps =
+      tally-bounds (scalingOf s) ps ∙ ap (λ (c : Scaling). bounds c ps) scaling-is in
+      λ i.
+      record {
+        carried = carried-is i;
+        offset = newOffset part-of;
+        records = length (part-of .records);
+        points = count i;
+        bins = bs i;
+        bounds = bounded i;
+      }
+
+  own-head : headBytes s own ≡ head
+  own-head = whole-head s own (passed s passes .whole) ∙ ap (λ (k : Head). join (headFields k)) head-is
+
+  -- points are read back where they stand, whatever follows
+  read-back : (z : Bytes) → pointsOf (length (part-of .points)) (recordLength s) (points ++ z) ≡ part-of .points
+  read-back z =
+      points-held (length (part-of .points)) (recordLength s) (points ++ z)
+      record { long = long; few = sound-part .pointCount; within = omega (arith, length-append points z, length-of-points) }
+      ∙ pieces-back (recordLength s) (part-of .points) z (rw (← length-is) (sound-part .points))
 
   module _ (table : List Bool) (right : TableOf sheet table) where
     -- the table keeps the points that the sheet keeps
@@ -126,82 +164,65 @@ module _ (sheet s : Bytes) (bytes : AllBytes s) (passes : fileVerdict s ≡ Pass
     run-bytes : AllBytes run
     run-bytes i = rw getD-drop (bytes (pointOffset s + i))
 
-    points-are : keptPoints table (pointCount s) (recordLength s) run ≡ part-of .points
+    held : Held (pointCount s) (recordLength s) (length run)
+    held = record { long = long; few = few; within = simp length-drop (omega (arith, passed s passes .pointed)) }
+
+    pub points-are : keptPoints table (pointCount s) (recordLength s) run ≡ part-of .points
     unfolding publicOf restrict contents carriedOf
     points-are =
-        points-law.all-where-held table (pointCount s) (recordLength s) run long few held
+        kept-held table (pointCount s) (recordLength s) run held
         ∙ kept-same (inTable table) (keepsPoint sheet (format s)) (pieces (pointCount s) (recordLength s) run)
         (by-table (pieces (pointCount s) (recordLength s) run) (pieces-bytes (pointCount s) (recordLength s) run run-bytes))
 
-    module _ (t : Tally) (tallied-by : t ≡ keptTally table (pointCount s) (recordLength s) run) where
-      tally-is : t ≡ foldl tallied noTally (part-of .points)
-      tally-is =
-          tallied-by
-          ∙ all-where-held table (pointCount s) (recordLength s) run long few held
-          ∙ ap (foldl tallied noTally) (sym (points-law.all-where-held table (pointCount s) (recordLength s) run long few held) ∙ points-are)
+    module _ (out : Bytes) (room : length (render part-of) ≤ length out) where
+      abbrev z : Bytes
+      z = zeros (length out - length (render part-of))
 
-      pub count-is : t .count ≡ length (part-of .points)
-      count-is = ap (λ (u : Tally). u .count) tally-is ∙ tally-count (part-of .points)
+      -- what the header is not written to yet
+      abbrev front : Bytes
+      front = take 227 out
 
-      -- what the header says
-      abbrev own : Totals
-      own = totalsOf s t (length (part-of .records)) (newOffset part-of)
+      offset-is : newOffset part-of ≡ 227 + length records
+      unfolding newOffset
+      offset-is = omega (arith, length-of-records)
 
-      head-is : headWith s own ≡ headOf part-of
-      unfolding headWith headOf totalsOf
-      head-is =
-          let ps : List Bytes = part-of .points in
-          let bs : binNumbers (t .bins) ≡ bins 5 ps = ap (λ (u : Tally). binNumbers (u .bins)) tally-is ∙ tally-bins ps in
-          let bounded : boundNumbers (tallyBounds t (scalingOf s)) ≡ bounds (scalingIn (part-of .carried .scaling)) ps =
-          ap (λ (u : Tally). boundNumbers (tallyBounds u (scalingOf s))) tally-is
-          ∙ tally-bounds (scalingOf s) ps
-          ∙ ap (λ (c : Scaling). bounds c ps) scaling-is in
-          λ i.
-          record {
-            carried = carried-is i;
-            offset = newOffset part-of;
-            records = length (part-of .records);
-            points = count-is i;
-            bins = bs i;
-            bounds = bounded i;
-          }
+      length-front : length front ≡ 227
+      length-front = length-take-le 227 out (omega (arith, render-length, offset-is))
 
-      -- header, records, points and zeros, stored one behind the other
-      pub assembled : (out : Bytes) → length (render part-of) ≤ length out
-          → written sheet s table own (length (render part-of)) out ≡ render part-of ++ zeros (length out - length (render part-of))
-      unfolding stored pointsBytes totalsOf
-      assembled out room =
-          let end : ℕ = length (render part-of) in
-          let z : Bytes = zeros (length out - end) in
-          let own-head : headBytes s own ≡ head = whole-head s own (passed s passes .whole) ∙ ap (λ (k : Head). join (headFields k)) head-is in
-          let own-points : join (keptPoints table (pointCount s) (recordLength s) run) ≡ points = ap join points-are in
-          let three : Bytes = sets (sets (sets out 0 head) 227 records) (newOffset part-of) points in
-          let same : length three ≡ length out = length-sets _ (newOffset part-of) points ∙ length-sets _ 227 records ∙ length-sets out 0 head in
-          let whole : length (head ++ (records ++ (points ++ z))) ≡ length out =
-          ap length (sym (in-parts z)) ∙ length-append (render part-of) z ∙ rw (length-replicate {A = ℕ} (length out - end) 0) (omega arith) in
-          reached sheet s table own end out (omega (arith, render-length))
-          ∙ rw (own-head, own-points)
-          (zeros-to-end three end (length out) same room
-          ∙ store-behind _ (newOffset part-of) end _ points z length-of-points render-length
-          ∙ store-behind _ 227 (newOffset part-of) _ records (points ++ z) length-of-records (unfold newOffset in refl)
-          ∙ store-behind out 0 227 227 head (records ++ (points ++ z)) length-of-head refl
-          ∙ sets-all out (head ++ (records ++ (points ++ z))) whole
-          ∙ sym (in-parts z))
+      length-both : length (front ++ records) ≡ newOffset part-of
+      length-both = omega (arith, length-append front records, length-front, offset-is)
+
+      records-stored : take (newOffset part-of) (sets out 227 records) ≡ front ++ records
+      records-stored =
+          rw (sets-eq records out 227 (omega (arith, render-length, offset-is))) (take-at (front ++ records) (drop (227 + length records) out) (newOffset part-of) length-both)
+
+      points-stored : withPoints table s (newOffset part-of) (sets out 227 records) ≡ (front ++ records) ++ (points ++ z)
+      unfolding withPoints pointsBytes
+      points-stored =
+          let n : length out - newOffset part-of - length points ≡ length out - length (render part-of) = omega (arith, render-length, length-of-points) in
+          rw (records-stored, length-sets, points-are, zeros-behind points (length out - newOffset part-of) (omega (arith, render-length, length-of-points)), n)
+
+      -- records, points and zeros at their places, and the header over the front
+      pub assembled : written sheet s table (length (part-of .points)) (length (part-of .records)) (newOffset part-of) out ≡ render part-of ++ z
+      unfolding written withHead
+      assembled =
+          rw (points-stored, drop-at (front ++ records) (points ++ z) (newOffset part-of) length-both, read-back z, own-head, append-assoc front records (points ++ z))
+          (over-front front (records ++ (points ++ z)) head (length-front ∙ sym length-of-head) ∙ sym (in-parts z))
 
 -- what was counted and measured, over the released file
-pub record Sized (sheet s : Bytes) (t : Tally) (k : KeptRecords) (len : ℕ) : Type 0 where
+pub record Sized (sheet s : Bytes) (n : ℕ) (k : KeptRecords) (len : ℕ) : Type 0 where
   pub offset : 227 + k .length ≡ newOffset (publicOf sheet s)
-  pub needed : 227 + k .length + t .count * len ≡ length (render (publicOf sheet s))
-  pub points : t .count ≡ length (publicOf sheet s .points)
+  pub needed : 227 + k .length + n * len ≡ length (render (publicOf sheet s))
+  pub points : n ≡ length (publicOf sheet s .points)
   pub records : k .count ≡ length (publicOf sheet s .records)
   pub most : length (render (publicOf sheet s)) ≤ length s
 
 pub sized : (sheet s : Bytes) → AllBytes s → fileVerdict s ≡ Passes → (table : List Bool) → TableOf sheet table
-    → (t : Tally) → t ≡ keptTally table (pointCount s) (recordLength s) (drop (pointOffset s) s)
-    → (k : KeptRecords) → k ≡ measured (publicOf sheet s .records) → (len : ℕ) → len ≡ recordLength s → Sized sheet s t k len
+    → (n : ℕ) → n ≡ length (keptPoints table (pointCount s) (recordLength s) (drop (pointOffset s) s))
+    → (k : KeptRecords) → k ≡ measured (publicOf sheet s .records) → (len : ℕ) → len ≡ recordLength s → Sized sheet s n k len
 unfolding measured
-sized sheet s bytes passes table right t by k m len l =
-    let points = count-is sheet s bytes passes table right t by in
+sized sheet s bytes passes table right n by k m len l =
+    let points : n ≡ length (publicOf sheet s .points) = by ∙ ap length (points-are sheet s bytes passes table right) in
     let offset : 227 + k .length ≡ newOffset (publicOf sheet s) = unfold newOffset in ap (λ (r : KeptRecords). 227 + r .length) m in
     record {
       offset = offset;

@@ -21,15 +21,14 @@ pub fn release(file: &[u8], sheet: &[u8], out: &mut [u8]) -> Answer
     let record_length = number_at(file, 105, 2) as usize;
     let count = number_at(file, 107, 4) as usize;
     let table = keptpoints::class_table(sheet);
-    let tally = tally::tally_points(&file[offset..], record_length, count, table);
+    let points = keptpoints::count_points(&file[offset..], record_length, count, table);
     let kept = keptrecords::measure(file, sheet);
-    let points = tally.count as usize;
     let records = kept.count;
     let start = 227 + kept.length;
     let needed = start + points * record_length;
     if out.len() < needed {
         return Answer::Short(needed);
     }
-    assembly::write(file, sheet, table, tally, records, start, needed, out);
+    assembly::write(file, sheet, table, points, records, start, out);
     Answer::Released(needed, points, records)
 }

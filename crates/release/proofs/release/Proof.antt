@@ -11,7 +11,7 @@ use Rattle.fields.proofs.StoreLaws.{tail-part}
 use Rattle.lasfile.specs.FileChecks.{pointOffset, pointCount, recordLength, fileVerdict}
 use Rattle.lasfile.proofs.Passed.{passed}
 use Rattle.sheet.specs.Sheet.{sheetVerdict}
-use Rattle.tally.specs.Tally.{keptTally}
+use Rattle.keptpoints.specs.KeptPoints.{keptPoints}
 use Rattle.publicpart.specs.Public.{publicOf}
 use Rattle.publicpart.specs.Render.{render}
 use Rattle.publicpart.specs.Release.{Outcome, accepted}
@@ -35,12 +35,13 @@ offset-inside : (c : tie.After-class-table) → c .before .before .before .numbe
 unfolding pointOffset
 offset-inside c = omega (arith, passed _ (file-passes (c .before .before .before .before .before .before .before)) .offsetHigh, c .before .before .before .number-at .ensures .0)
 
--- the tally is that of the file's points
-tally-is : (c : tie.After-tally-points)
-    → c .tally-points .result ≡ keptTally (c .before .before .class-table .result) (pointCount (now (c .before .before .before .before .before .before .before .before .before .before .before .before .before .before .before .args .file))) (recordLength (now (c .before .before .before .before .before .before .before .before .before .before .before .before .before .before .before .args .file))) (drop (pointOffset (now (c .before .before .before .before .before .before .before .before .before .before .before .before .before .before .before .args .file))) (now (c .before .before .before .before .before .before .before .before .before .before .before .before .before .before .before .args .file)))
+-- the points that are counted are those of the file
+count-is : (c : tie.After-count-points)
+    → let s = now (c .before .before .before .before .before .before .before .before .before .before .before .before .before .before .before .args .file) in
+    c .count-points .result ≡ length (keptPoints (c .before .before .class-table .result) (pointCount s) (recordLength s) (drop (pointOffset s) s))
 unfolding pointOffset pointCount recordLength
-tally-is c =
-    rw (tail-part, c .before .before .before .before .before .number-at .ensures .0, c .before .before .before .before .number-at2 .ensures .0, c .before .before .before .number-at3 .ensures .0) at (c .tally-points .ensures)
+count-is c =
+    rw (tail-part, c .before .before .before .before .before .number-at .ensures .0, c .before .before .before .before .number-at2 .ensures .0, c .before .before .before .number-at3 .ensures .0) at (c .count-points .ensures)
 
 length-is : (c : tie.After-number-at2) → c .number-at2 .result ≡ recordLength (now (c .before .before .before .before .before .before .before .before .before .before .before .args .file))
 unfolding recordLength
@@ -48,9 +49,9 @@ length-is c = c .number-at2 .ensures .0
 
 sizes : (c : tie.After-measure)
     → let a = c .before .before .before .before .before .before .before .before .before .before .before .before .before .before .before .before .args in
-    Sized (now (a .sheet)) (now (a .file)) (c .before .tally-points .result) (c .measure .result) (c .before .before .before .before .before .number-at2 .result)
+    Sized (now (a .sheet)) (now (a .file)) (c .before .count-points .result) (c .measure .result) (c .before .before .before .before .before .number-at2 .result)
 sizes c =
-    sized _ _ (file-bytes (c .before .before .before .before .before .before .before .before .before .before .before .before .before .before .before)) (file-passes (c .before .before .before .before .before .before .before .before .before .before)) (c .before .before .before .class-table .result) (c .before .before .before .class-table .ensures) _ (tally-is (c .before)) _ (c .measure .ensures) _ (length-is (c .before .before .before .before .before))
+    sized _ _ (file-bytes (c .before .before .before .before .before .before .before .before .before .before .before .before .before .before .before)) (file-passes (c .before .before .before .before .before .before .before .before .before .before)) (c .before .before .before .class-table .result) (c .before .before .before .class-table .ensures) _ (count-is (c .before)) _ (c .measure .ensures) _ (length-is (c .before .before .before .before .before))
 
 check-file-requires : tie.Need-check-file-requires
 check-file-requires c κs = search needs
@@ -88,17 +89,17 @@ number-at-requires-3 c κs = search needs
 class-table-requires : tie.Need-class-table-requires
 class-table-requires c κs = search needs
 
-sub-tally-points : tie.Need-sub-tally-points
-sub-tally-points c = offset-inside c
+sub-count-points : tie.Need-sub-count-points
+sub-count-points c = offset-inside c
 
-part-tally-points-start : tie.Need-part-tally-points-start
-part-tally-points-start c = offset-inside c
+part-count-points-start : tie.Need-part-count-points-start
+part-count-points-start c = offset-inside c
 
-part-tally-points-end : tie.Need-part-tally-points-end
-part-tally-points-end c = search needs
+part-count-points-end : tie.Need-part-count-points-end
+part-count-points-end c = search needs
 
-tally-points-requires : tie.Need-tally-points-requires
-tally-points-requires c κs = search needs
+count-points-requires : tie.Need-count-points-requires
+count-points-requires c κs = search needs
 
 measure-requires : tie.Need-measure-requires
 measure-requires c κs = search needs
@@ -118,8 +119,8 @@ returns-3 c =
     let m = sizes (c .before .before) in
     let a = c .before .before .before .before .before .before .before .before .before .before .before .before .before .before .before .before .before .before .args in
     let k = c .before .before .measure .result in
-    let t = c .before .before .before .tally-points .result in
-    let needed : _≡_ {A = Outcome} (Short (227 + k .length + t .count * c .before .before .before .before .before .before .before .number-at2 .result), now (a .out)) (Short (length (render (publicOf (now (a .sheet)) (now (a .file))))), now (a .out)) =
+    let n = c .before .before .before .count-points .result in
+    let needed : _≡_ {A = Outcome} (Short (227 + k .length + n * c .before .before .before .before .before .before .before .number-at2 .result), now (a .out)) (Short (length (render (publicOf (now (a .sheet)) (now (a .file))))), now (a .out)) =
     ap (λ (n : ℕ). (Short n, now (a .out))) (m .needed) in
     needed ∙ sym (release-short _ _ _ (file-passes (c .before .before .before .before .before .before .before .before .before .before .before .before)) (sheet-passes (c .before .before .before .before .before .before .before .before .before)) (omega (arith, m .needed)))
 
@@ -133,17 +134,16 @@ same-length c = search needs
 output-is : (c : tie.After-slice-known2)
     → let a = c .before .before .before .before .before .before .before .before .before .before .before .before .before .before .before .before .before .before .before .before .before .before .args in
     let p = publicOf (now (a .sheet)) (now (a .file)) in
-    c .before .before .write .last .1 .1 .1 .1 .1 .1 .1 .0 ≡ render p ++ zeros (length (now (a .out)) - length (render p))
+    c .before .before .write .last .1 .1 .1 .1 .1 .1 .0 ≡ render p ++ zeros (length (now (a .out)) - length (render p))
 output-is c =
     let a = c .before .before .before .before .before .before .before .before .before .before .before .before .before .before .before .before .before .before .before .before .before .before .args in
     let s = now (a .file) in
     let sheet = now (a .sheet) in
     let table = c .before .before .before .before .before .before .before .before .before .class-table .result in
-    let t = c .before .before .before .before .before .before .before .tally-points .result in
     let m = sizes (c .before .before .before .before .before .before) in
     c .before .before .write .ensures
-    ∙ rw (m .records, m .needed, m .offset)
-    (assembled sheet s (file-bytes (c .before .before .before .before .before .before .before .before .before .before .before .before .before .before .before .before .before .before .before .before .before)) (file-passes (c .before .before .before .before .before .before .before .before .before .before .before .before .before .before .before .before)) table (c .before .before .before .before .before .before .before .before .before .class-table .ensures) t (tally-is (c .before .before .before .before .before .before .before)) (now (a .out)) (omega (arith, m .needed)))
+    ∙ rw (m .points, m .records, m .offset)
+    (assembled sheet s (file-bytes (c .before .before .before .before .before .before .before .before .before .before .before .before .before .before .before .before .before .before .before .before .before)) (file-passes (c .before .before .before .before .before .before .before .before .before .before .before .before .before .before .before .before)) table (c .before .before .before .before .before .before .before .before .before .class-table .ensures) (now (a .out)) (omega (arith, m .needed)))
 
 -- the numbers are the released file's length, its points and its records
 returns-4 : tie.Need-returns-4
@@ -153,8 +153,8 @@ returns-4 c =
     let a = c .before .before .before .before .before .before .before .before .before .before .before .before .before .before .before .before .before .before .before .before .before .before .args in
     let p = publicOf (now (a .sheet)) (now (a .file)) in
     let k = c .before .before .before .before .before .before .measure .result in
-    let t = c .before .before .before .before .before .before .before .tally-points .result in
-    let numbers : Released (227 + k .length + t .count * c .before .before .before .before .before .before .before .before .before .before .before .number-at2 .result) (t .count) (k .count) ≡ Released (length (render p)) (length (p .points)) (length (p .records)) =
+    let n = c .before .before .before .before .before .before .before .count-points .result in
+    let numbers : Released (227 + k .length + n * c .before .before .before .before .before .before .before .before .before .before .before .number-at2 .result) n (k .count) ≡ Released (length (render p)) (length (p .points)) (length (p .records)) =
     rw (m .needed, m .points, m .records) in
     (λ i. (numbers i, output-is c i))
     ∙ sym (release-long _ _ _ (file-passes (c .before .before .before .before .before .before .before .before .before .before .before .before .before .before .before .before)) (sheet-passes (c .before .before .before .before .before .before .before .before .before .before .before .before .before)) (omega (arith, m .needed)))
@@ -175,10 +175,10 @@ release-spec =
     number-at-requires-2
     number-at-requires-3
     class-table-requires
-    sub-tally-points
-    part-tally-points-start
-    part-tally-points-end
-    tally-points-requires
+    sub-count-points
+    part-count-points-start
+    part-count-points-end
+    count-points-requires
     measure-requires
     add-start
     mul-needed

@@ -1,0 +1,35 @@
+-- `assembly::put_header` meets its contract. Assumes nothing.
+use mathlib.Core.Path.{_≡_, _∙_}
+use denote.Ref.{now}
+use lib.ListN.{drop}
+use lib.Seq.{sets}
+use Rattle.lasfile.specs.FileChecks.{recordLength}
+use Rattle.pointruns.specs.PointRuns.{pointsOf}
+use Rattle.tally.specs.Tally.{tallyOf}
+use Rattle.heads.specs.declared.Totals.{Totals}
+use Rattle.heads.specs.Heads.{headBytes}
+use Rattle.assembly.specs.Assembly.{totalsOf, withHead}
+use borrow.Author.Needs.{needs}
+use Rattle.assembly.proofs.put_header.Statement.{statement}
+use Rattle.assembly.proofs.put_header.Tie as tie
+
+totals-of-requires : tie.Need-totals-of-requires
+totals-of-requires c κs = search needs
+
+put-head-requires : tie.Need-put-head-requires
+put-head-requires c κs = search needs
+
+same-length : tie.Need-same-length
+same-length c = search needs
+
+returns : tie.Need-returns
+unfolding withHead
+returns c =
+    let a = c .before .before .before .before .before .before .before .before .args in
+    let totals : Totals = c .before .before .before .before .totals-of .result in
+    let said : totals ≡ totalsOf (now (a .file)) (tallyOf (pointsOf (a .points) (recordLength (now (a .file))) (drop (a .start) (now (a .out))))) (a .records) (a .start) = c .before .before .before .before .totals-of .ensures in
+    let headed : c .before .before .put-head .last .1 .1 .0 ≡ sets (now (a .out)) 0 (headBytes (now (a .file)) totals) = c .before .before .put-head .ensures in
+    headed ∙ rw said
+
+pub put-header-spec : {M : Type 1} → statement M
+put-header-spec = tie.close (tie.spec totals-of-requires put-head-requires same-length returns)

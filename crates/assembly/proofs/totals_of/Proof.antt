@@ -1,0 +1,61 @@
+-- `assembly::totals_of` meets its contract. Assumes nothing.
+use mathlib.Core.Path.{_≡_, ap, _∙_}
+use denote.Ref.{now}
+use lib.ListN.{length, drop}
+use Rattle.fields.specs.Bytes.{part}
+use Rattle.scaling.specs.declared.Bounds.{Bounds}
+use Rattle.lasfile.specs.FileChecks.{recordLength}
+use Rattle.pointruns.specs.PointRuns.{pointsOf}
+use Rattle.tally.specs.declared.Tally.{Tally}
+use Rattle.tally.specs.Tally.{tallyOf}
+use Rattle.bounds.specs.Bounds.{tallyBounds}
+use Rattle.keptrecords.proofs.KeptLaws.{from-place}
+use Rattle.assembly.specs.Assembly.{totalsOf}
+use borrow.Author.Needs.{needs}
+use Rattle.assembly.proofs.totals_of.Statement.{statement}
+use Rattle.assembly.proofs.totals_of.Tie as tie
+
+-- the tally is that of the points that stand in the output
+tally-is : (c : tie.After-tally-points)
+    → let a = c .before .before .before .before .before .args in
+    c .tally-points .result ≡ tallyOf (pointsOf (a .points) (recordLength (now (a .file))) (drop (a .start) (now (a .out))))
+unfolding recordLength
+tally-is c =
+    let a = c .before .before .before .before .before .args in
+    let run : now (c .before .part-at .result) ≡ part (a .start) (length (now (a .out))) (now (a .out)) = c .before .part-at .ensures in
+    c .tally-points .ensures ∙ rw (run, from-place (now (a .out)) (a .start), c .before .before .number-at .ensures .0)
+
+number-at-requires : tie.Need-number-at-requires
+number-at-requires c κs = search needs
+
+part-at-requires : tie.Need-part-at-requires
+part-at-requires c κs = search needs
+
+tally-points-requires : tie.Need-tally-points-requires
+tally-points-requires c κs = search needs
+
+read-requires : tie.Need-read-requires
+read-requires c κs = search needs
+
+bounds-of-requires : tie.Need-bounds-of-requires
+bounds-of-requires c κs = search needs
+
+returns : tie.Need-returns
+unfolding totalsOf
+returns c =
+    let a = c .before .before .before .before .before .before .before .before .args in
+    let t = c .before .before .before .tally-points .result in
+    ap (λ (b : Bounds). record { offset = a .start; records = a .records; points = t .count; bins = t .bins; bounds = b })
+    (c .bounds-of .ensures ∙ ap (tallyBounds t) (c .before .read .ensures))
+    ∙ ap (λ (u : Tally). totalsOf (now (a .file)) u (a .records) (a .start)) (tally-is (c .before .before .before))
+
+pub totals-of-spec : {M : Type 1} → statement M
+totals-of-spec =
+    tie.close
+    (tie.spec
+    number-at-requires
+    part-at-requires
+    tally-points-requires
+    read-requires
+    bounds-of-requires
+    returns)
