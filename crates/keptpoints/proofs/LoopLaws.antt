@@ -5,7 +5,6 @@ use Prim.Native.Nat.{ℕ, zero, suc, _+_, _-_, _*_, _≤_, _<_}
 use native.Mathlib.Omega.{arith}
 use mathlib.Core.Bool.{Bool, true, false, cond}
 use mathlib.Core.List.{List, [], _∷_, _++_, append-nil, append-assoc}
-use mir.Val.{boolByte}
 use lib.ListN.{length, take, drop, getD, length-append}
 use lib.Seq.{sets, length-sets, take-nil}
 use Rattle.fields.specs.Lists.{kept, consIf}
@@ -26,12 +25,16 @@ pub looked-at : (table : List Bool) (run : Bytes) (at w class : ℕ) → 15 < w 
 unfolding inTable
 looked-at table run at w class h e = rw (e, getD-part at w 15 run h)
 
+step-le : (b : Bool) (n : ℕ) → cond b n 0 ≤ n
+step-le true n = omega arith
+step-le false n = omega arith
+
 cons-one : (b : Bool) (p : Bytes) (ps : List Bytes) → consIf b p [] ++ ps ≡ consIf b p ps
 unfolding consIf
 cons-one true p ps = refl
 cons-one false p ps = refl
 
-length-one : (b : Bool) (p : Bytes) → length (consIf b p []) ≡ boolByte b
+length-one : (b : Bool) (p : Bytes) → length (consIf b p []) ≡ cond b 1 0
 unfolding consIf
 length-one true p = refl
 length-one false p = refl
@@ -72,23 +75,19 @@ pub record Counted (keep : Bytes → Bool) (w count : ℕ) (run : Bytes) (left a
   pub number : n ≡ length (looked .done)
   pub behind : n ≤ at
 
-pub bit-le : (b : Bool) → boolByte b ≤ 1
-bit-le true = omega arith
-bit-le false = omega arith
-
 module _ (keep : Bytes → Bool) (w count : ℕ) (run : Bytes) where
   pub count-begun : count * w ≤ length run → Counted keep w count run count 0 0
   unfolding begun
   count-begun h = record { looked = begun keep w count run h; number = refl; behind = omega arith }
 
   pub count-next : (left at n : ℕ) → 0 < left → Counted keep w count run left at n → 15 < w → (b : Bool) → b ≡ keep (part at w run)
-      → Counted keep w count run (left - 1) (at + w) (n + boolByte b)
+      → Counted keep w count run (left - 1) (at + w) (n + cond b 1 0)
   unfolding next
   count-next left at n more c long b e =
       record {
         looked = next keep w count run left at more (c .looked) b e;
         number = rw (c .number, length-append, length-one);
-        behind = omega (arith, c .behind, bit-le b);
+        behind = omega (arith, c .behind, step-le b 1);
       }
 
   pub count-ended : (left at n : ℕ) → left ≤ 0 → Counted keep w count run left at n → n ≡ length (kept keep (pieces count w run))
@@ -103,10 +102,6 @@ pub record Copied (keep : Bytes → Bool) (w count : ℕ) (run out₀ out : Byte
   pub front : Front out (join (looked .done))
   pub same : length out ≡ length out₀
   pub behind : to ≤ at
-
-pub step-le : (b : Bool) (w : ℕ) → cond b w 0 ≤ w
-step-le true w = omega arith
-step-le false w = omega arith
 
 module _ (keep : Bytes → Bool) (w count : ℕ) (run out₀ : Bytes) where
   pub copy-begun : count * w ≤ length run → Copied keep w count run out₀ out₀ count 0 0

@@ -27,6 +27,13 @@ fn wide(b: u8) -> usize
     b as usize
 }
 
+// How far to go on where a point is kept, and where it is not. The compiler makes no branch of it.
+fn step(keep: bool, n: usize) -> usize
+    ensures { λ r. ⌜ (r ≡ cond keep n 0) × (r ≤ n) ⌝ }
+{
+    if keep { n } else { 0 }
+}
+
 // Counts the kept points of a run that holds them all.
 fn count_run(run: &[u8], record_length: usize, count: usize, table: [bool; 256]) -> usize
     requires { ⌜ (15 < «record_length») × (count * «record_length» ≤ length (now run)) ⌝ }
@@ -36,7 +43,7 @@ fn count_run(run: &[u8], record_length: usize, count: usize, table: [bool; 256])
     let mut n = 0;
     let mut left = count;
     while 0 < left {
-        n += table[wide(run[at + 15])] as usize;
+        n += step(table[wide(run[at + 15])], 1);
         at += record_length;
         left -= 1;
     }
@@ -52,12 +59,6 @@ pub fn count_points(run: &[u8], record_length: usize, count: usize, table: [bool
     } else {
         0
     }
-}
-
-fn step(keep: bool, n: usize) -> usize
-    ensures { λ r. ⌜ r ≡ cond keep n 0 ⌝ }
-{
-    if keep { n } else { 0 }
 }
 
 // Writes the kept points of a run that holds them all to the front of `out`, and says how many bytes they are. Each record is written to where the next kept one

@@ -1,5 +1,10 @@
 -- `keptpoints::copy_points` meets its contract. Assumes nothing.
-use mathlib.Core.Path.{_∙_}
+use mathlib.Core.Path.{_≡_, _∙_}
+use denote.Ref.{now}
+use lib.ListN.{length}
+use lib.Seq.{sets}
+use Rattle.fields.specs.Bytes.{join, zeros}
+use Rattle.keptpoints.specs.KeptPoints.{keptPoints}
 use Rattle.keptpoints.proofs.FrontLaws.{zeroed}
 use borrow.Author.Needs.{needs}
 use Rattle.keptpoints.proofs.copy_points.Statement.{statement}
@@ -16,8 +21,13 @@ same-length c = search needs
 
 returns : tie.Need-returns
 returns c =
+    let a = c .before .before .before .before .before .before .before .before .before .before .args in
     let f = c .before .before .before .before .before .before .copy-front in
-    c .before .before .zero .ensures ∙ zeroed _ _ (f .result) _ (f .kept .1 .1 .1 .1 .0) (f .ensures .0) (f .ensures .1)
+    let d = f .last .1 .1 .1 .1 .0 in
+    let n = length (now (a .out)) in
+    let rest : c .before .before .zero .last .0 ≡ sets d (f .result) (zeros n) = c .before .before .zero .ensures in
+    rest
+    ∙ zeroed d (join (keptPoints (a .table) (a .count) (a .record-length) (now (a .run)))) (f .result) n (f .kept .1 .1 .1 .1 .0) (f .ensures .0) (f .ensures .1)
 
 pub copy-points-spec : {M : Type 1} → statement M
 copy-points-spec = tie.close (tie.spec copy-front-requires zero-requires same-length returns)

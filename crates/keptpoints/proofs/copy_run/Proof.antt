@@ -4,11 +4,10 @@ use Prim.Native.Nat.{_+_, _-_, _≤_}
 use native.Mathlib.Omega.{arith}
 use borrow.Author.Needs.{needs}
 use denote.Ref.{now}
-use mathlib.Core.Bool.{false}
-use lib.ListN.{length, getD}
+use lib.ListN.{length}
 use lib.Seq.{sets}
 use Rattle.keptpoints.specs.KeptPoints.{inTable}
-use Rattle.keptpoints.proofs.LoopLaws.{Copied, ends, looked-at, copy-begun, copy-next, copy-ended, step-le}
+use Rattle.keptpoints.proofs.LoopLaws.{Copied, ends, looked-at, copy-begun, copy-next, copy-ended}
 use Rattle.keptpoints.proofs.copy_run.Statement.{statement}
 use Rattle.keptpoints.proofs.copy_run.Tie as tie
 
@@ -47,9 +46,7 @@ step-requires : tie.Need-step-requires Inv-loop μ-loop
 step-requires c κs = search needs
 
 add-to : tie.Need-add-to Inv-loop μ-loop
-add-to c =
-    let s = c .before .before .before .before .before .before .before .before in
-    omega (arith, inside s, s .before .loop .inv .behind, c .step .ensures, step-le (getD (s .before .before .before .before .args .t4) (c .before .before .before .before .before .before .wide .result) false) (s .before .before .before .before .args .record-length))
+add-to c = let s = c .before .before .before .before .before .before .before .before in omega (arith, inside s, s .before .loop .inv .behind, c .step .ensures .1)
 
 add-at : tie.Need-add-at Inv-loop μ-loop
 add-at c = omega (arith, inside (c .before .before .before .before .before .before .before .before))
@@ -66,7 +63,7 @@ loop-again c =
     let s = turn .before .before .before .before in
     let a = s .args in
     let l = turn .before .loop in
-    rw (c .step .ensures)
+    rw (c .step .ensures .0)
     (copy-next (inTable (a .t4)) (a .record-length) (a .count) (now (a .run)) (now (a .out)) (l .out) (l .left) (l .at) (l .to) (l .inv) (turn .loop-test .taken) _
     (looked-at (a .t4) (now (a .run)) (l .at) (a .record-length) _ (s .pre .0) (c .before .before .before .before .before .before .wide .ensures .0)) _
     (c .before .before .before .copy .ensures ∙ ap (sets (l .out) (l .to)) (c .before .before .before .before .before .part-at .ensures)))

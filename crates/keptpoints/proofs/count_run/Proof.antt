@@ -3,10 +3,9 @@ use Prim.Native.Nat.{_+_, _-_, _≤_}
 use native.Mathlib.Omega.{arith}
 use borrow.Author.Needs.{needs}
 use denote.Ref.{now}
-use mathlib.Core.Bool.{false}
-use lib.ListN.{length, getD}
+use lib.ListN.{length}
 use Rattle.keptpoints.specs.KeptPoints.{inTable}
-use Rattle.keptpoints.proofs.LoopLaws.{Counted, ends, looked-at, count-begun, count-next, count-ended, bit-le}
+use Rattle.keptpoints.proofs.LoopLaws.{Counted, ends, looked-at, count-begun, count-next, count-ended}
 use Rattle.keptpoints.proofs.count_run.Statement.{statement}
 use Rattle.keptpoints.proofs.count_run.Tie as tie
 
@@ -32,17 +31,19 @@ shared-slice-read-wide c = omega (arith, inside (c .before), c .before .before .
 wide-requires : tie.Need-wide-requires Inv-loop μ-loop
 wide-requires c κs = search needs
 
-array-read-n : tie.Need-array-read-n Inv-loop μ-loop
-array-read-n c = c .wide .ensures .1
+array-read-step : tie.Need-array-read-step Inv-loop μ-loop
+array-read-step c = c .wide .ensures .1
 
-cast-n : tie.Need-cast-n Inv-loop μ-loop
-cast-n c = search needs
+step-requires : tie.Need-step-requires Inv-loop μ-loop
+step-requires c κs = search needs
 
 add-n : tie.Need-add-n Inv-loop μ-loop
-add-n c = omega (arith, inside (c .before .before), c .before .before .before .before .before .pre .0, c .before .before .before .loop .inv .behind, bit-le (getD (c .before .before .before .before .before .args .t4) (c .wide .result) false))
+add-n c =
+    let s = c .before .before .before in
+    omega (arith, inside s, s .before .before .before .pre .0, s .before .loop .inv .behind, c .step .ensures .1)
 
 add-at : tie.Need-add-at Inv-loop μ-loop
-add-at c = omega (arith, inside (c .before .before))
+add-at c = omega (arith, inside (c .before .before .before))
 
 sub-left : tie.Need-sub-left Inv-loop μ-loop
 sub-left c = omega arith
@@ -52,11 +53,13 @@ loop-less c = omega arith
 
 loop-again : tie.Need-loop-again Inv-loop μ-loop
 loop-again c =
-    let s = c .before .before .before .before .before in
+    let turn = c .before .before .before in
+    let s = turn .before .before .before in
     let a = s .args in
-    let l = c .before .before .before .loop in
-    count-next (inTable (a .t4)) (a .record-length) (a .count) (now (a .run)) (l .left) (l .at) (l .n) (c .before .before .loop-test .taken) (l .inv) (s .pre .0) _
-    (looked-at (a .t4) (now (a .run)) (l .at) (a .record-length) _ (s .pre .0) (c .wide .ensures .0))
+    let l = turn .before .loop in
+    rw (c .step .ensures .0)
+    (count-next (inTable (a .t4)) (a .record-length) (a .count) (now (a .run)) (l .left) (l .at) (l .n) (turn .loop-test .taken) (l .inv) (s .pre .0) _
+    (looked-at (a .t4) (now (a .run)) (l .at) (a .record-length) _ (s .pre .0) (c .before .wide .ensures .0)))
 
 returns : tie.Need-returns Inv-loop μ-loop
 returns c =
@@ -73,8 +76,8 @@ count-run-spec =
     add-wide
     shared-slice-read-wide
     wide-requires
-    array-read-n
-    cast-n
+    array-read-step
+    step-requires
     add-n
     add-at
     sub-left
