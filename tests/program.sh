@@ -54,6 +54,8 @@ expect "no in.las, and a long sheet.bin" "refused 51"
 fresh
 rm "$folder/in.las" && mkdir "$folder/in.las"
 expect "in.las is a folder" "refused 51"
+rmdir "$folder/in.las" && ln -s in.las "$folder/in.las"
+expect "in.las can't be opened: a link to itself" "refused 51"
 
 fresh
 head -c 32769 /dev/zero >"$folder/in.las"
@@ -74,6 +76,8 @@ head -c 32769 /dev/zero >"$folder/sheet.bin"
 expect "sheet.bin of 32,769 bytes" "refused 50"
 rm "$folder/sheet.bin" && mkdir "$folder/sheet.bin"
 expect "sheet.bin is a folder" "refused 51"
+rmdir "$folder/sheet.bin"
+expect "no sheet.bin" "refused 51"
 
 fresh
 printf 'KT\001' >"$folder/sheet.bin"
@@ -89,6 +93,12 @@ mkdir "$folder/out.las"
 expect "an out.las that can't be replaced" "refused 51"
 holds "it stays" test -d "$folder/out.las"
 holds "no part is left of a failed write" test ! -e "$folder/out.las.part"
+
+fresh
+echo older >"$folder/out.las"
+mkdir "$folder/out.las.part"
+expect "an out.las.part that can't be written" "refused 51"
+holds "an older out.las survives a failed write" grep -qx older "$folder/out.las"
 
 fresh
 : >"$folder/sheet.bin"
