@@ -178,7 +178,7 @@ module _ (sheet s : Bytes) (bytes : AllBytes s) (passes : fileVerdict s ≡ Pass
       abbrev z : Bytes
       z = zeros (length out - length (render part-of))
 
-      -- what the header is not written to yet
+      -- where the header goes
       abbrev front : Bytes
       front = take 227 out
 
