@@ -49,14 +49,17 @@ add() {
 }
 
 holds "the header by itself as C" cc -std=c99 "${strict[@]}" -x c -fsyntax-only "$include/korbishaf.h"
-holds "the header by itself as C++" c++ "${strict[@]}" -x c++ -fsyntax-only "$include/korbishaf.h"
 holds "release.c" cc -std=c99 "${strict[@]}" -I"$include" "$here/release.c" "$library" -o "$scratch/release"
-holds "release.c as C++" \
-    c++ "${strict[@]}" -I"$include" -x c++ "$here/release.c" -x none "$library" -o "$scratch/release-c++"
 holds "interface.c" cc -std=c99 "${strict[@]}" -I"$include" "$here/interface.c" "$library" -o "$scratch/interface"
 line="check 0 points 2 system a system asked 30 247 released 0 247 points 1 records 0 max X 4023000000000000"
 expect "a release" "$line" "$scratch/release"
-expect "a release from C++" "$line" "$scratch/release-c++"
+# cargo's machine has a C compiler, since it links by it; one for C++ may be missing
+if command -v c++ >/dev/null; then
+    holds "the header by itself as C++" c++ "${strict[@]}" -x c++ -fsyntax-only "$include/korbishaf.h"
+    holds "release.c as C++" \
+        c++ "${strict[@]}" -I"$include" -x c++ "$here/release.c" -x none "$library" -o "$scratch/release-c++"
+    expect "a release from C++" "$line" "$scratch/release-c++"
+fi
 add "$scratch/interface"
 
 echo "$passed passed, $failed failed"

@@ -5,7 +5,6 @@ use Prim.Native.Nat.{ℕ, zero, suc, _+_, _*_, _^_, _≤_, _<_}
 use native.Mathlib.Nat.{mul-le-mul}
 use native.Mathlib.Omega.{arith}
 use mathlib.Core.Bool.{Bool, true, false, not, _&&_}
-use mathlib.Core.List.{[], _∷_}
 use lib.Dec.{T, lit≤}
 use lib.Pow.{pow-mono}
 use lib.IntN.{ℤ, pos, negsuc, negℤ, natAbs, _+ℤ_, _*ℤ_}
@@ -15,7 +14,7 @@ use lib.Ieee.Fits.{and-l, and-r, down-pos}
 use lib.Ieee.Bits.{toBits-ofBits}
 use lib.Ieee.Scale.{finite}
 use lib.Ieee.Positive.{positive, between}
-use Rattle.fields.specs.Bytes.{Bytes, AllBytes, part, num, bytesOf}
+use Rattle.fields.specs.Bytes.{Bytes, AllBytes, part, num}
 use Rattle.fields.proofs.ByteLaws.{num-part-lt}
 use Rattle.scaling.specs.declared.Scaling.{Scaling}
 use Rattle.scaling.proofs.ScalingLaws.{double-in}
@@ -176,10 +175,3 @@ exact-case k whole h l = record { few = h; power = power k; is-whole = times-int
     power : (k : ℕ) → Times k (fin false 1 (negℤ (pos k))) (pos 1)
     power zero = unfold Times signed in refl
     power (suc k) = unfold Times signed in refl
-
--- ---- sample P8: stored -1, scale 0.5, offset 10 give 9.5, bytes 00 00 00 00 00 00 23 40. `fin false m e` is m · 2 ^ e, so 9.5 is 19 · 2 ^ -1
-
-pub p8 : (coordinateOf (negsuc 0) (fin false 1 (negsuc 0)) (fin false 5 (pos 1)) ≡ fin false 19 (negsuc 0))
-    × (bytesOf 8 (toBits binary64 (fin false 19 (negsuc 0))) ≡ 0x00 ∷ 0x00 ∷ 0x00 ∷ 0x00 ∷ 0x00 ∷ 0x00 ∷ 0x23 ∷ 0x40 ∷ [])
-unfolding coordinateOf add mul ofInt toBits bytesOf
-p8 = (refl, refl)
