@@ -8,7 +8,7 @@ use lib.Seq.{sets}
 use Rattle.fields.specs.Bytes.{Bytes, join, zeros}
 use Rattle.records.specs.Records.{recordsBytes}
 use Rattle.scaling.specs.Scaling.{scalingOf}
-use Rattle.lasfile.specs.FileChecks.{pointOffset, pointCount, recordLength}
+use Rattle.headerfields.specs.HeaderFields.{headerBlock, pointOffset, pointCount, recordLength}
 use Rattle.pointruns.specs.PointRuns.{pointsOf}
 use Rattle.publicpart.specs.Public.{publicOf}
 use Rattle.tally.specs.declared.Tally.{Tally}
@@ -45,4 +45,4 @@ withHead s points records start out =
 -- kept records directly after the header, kept points from the new point offset on with zeros behind them, and the header of these
 unfoldable pub written : Bytes → Bytes → List Bool → ℕ → ℕ → ℕ → Bytes → Bytes
 written sheet s table points records start out =
-    withHead s points records start (withPoints table s start (sets out 227 (recordsBytes 2 (publicOf sheet s .records))))
+    withHead s points records start (withPoints table s start (sets out headerBlock (recordsBytes 2 (publicOf sheet s .records))))

@@ -1,7 +1,7 @@
 // A released file, put together in the output: kept records, kept points and zeros behind them, and the header of these.
 ghost use mathlib.Core.Path.{_≡_};
 ghost use lib.ListN.{drop};
-ghost use Rattle.lasfile.specs.FileChecks.{recordLength};
+ghost use Rattle.headerfields.specs.HeaderFields.{recordLength};
 ghost use Rattle.pointruns.specs.PointRuns.{pointsOf};
 ghost use Rattle.tally.specs.Tally.{tallyOf};
 ghost use Rattle.assembly.specs.Assembly.{withPoints, totalsOf, withHead, written};

@@ -9,7 +9,8 @@ use Rattle.fields.specs.Checks.{firstFailing, then, Test, _below_, not-so, _or_
 use Rattle.fields.specs.declared.Verdict.the-variants.{Passes, Fails}
 use Rattle.fields.proofs.CheckLaws.{Broken, first-fails, all-clear, then-passes, then-fails}
 use Rattle.records.specs.Records.{sizeOf}
-use Rattle.lasfile.specs.FileChecks.{headerSize, pointOffset, recordCount, fileVerdict}
+use Rattle.headerfields.specs.HeaderFields.{headerSize, pointOffset, recordCount}
+use Rattle.lasfile.specs.FileChecks.{fileVerdict}
 use Rattle.cursor.specs.Steps.{stepChecks, recordPlaces, nextCursor, recordIf, stepOf}
 use Rattle.cursor.specs.declared.Step.the-variants.{Record, Refused}
 

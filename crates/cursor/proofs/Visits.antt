@@ -17,7 +17,8 @@ use Rattle.fields.proofs.TextLaws.{cut-front, length-cut}
 use Rattle.fields.proofs.ByteLaws.{length-part-le}
 use Rattle.records.specs.Records.{recordOf, sizeOf, payloadLength, places, walkEnd}
 use Rattle.records.proofs.RecordLaws.{walk-grows, walkEnd-step}
-use Rattle.lasfile.specs.FileChecks.{headerSize, pointOffset, recordCount, recordsEnd, fileVerdict}
+use Rattle.headerfields.specs.HeaderFields.{headerSize, pointOffset, recordCount}
+use Rattle.lasfile.specs.FileChecks.{recordsEnd, fileVerdict}
 use Rattle.cursor.specs.Steps.{recordPlaces, nextCursor, stepOf, collect, visited}
 use Rattle.cursor.specs.Visits.{cursor, Means, Visits}
 use Rattle.cursor.specs.declared.RecordPlaces.{RecordPlaces}

@@ -10,7 +10,8 @@ use Rattle.fields.specs.Checks.{Check, firstFailing, then, _below_, not-so, _or
 use Rattle.fields.specs.declared.Verdict.{Verdict}
 use Rattle.fields.specs.declared.Verdict.the-variants.{Passes, Fails}
 use Rattle.records.specs.Records.{sizeOf, payloadLength}
-use Rattle.lasfile.specs.FileChecks.{headerSize, pointOffset, recordCount, fileVerdict}
+use Rattle.headerfields.specs.HeaderFields.{headerSize, pointOffset, recordCount}
+use Rattle.lasfile.specs.FileChecks.{fileVerdict}
 use Rattle.cursor.specs.declared.RecordPlaces.{RecordPlaces}
 use Rattle.cursor.specs.declared.VlrCursor.{VlrCursor}
 use Rattle.cursor.specs.declared.Step.{Step}

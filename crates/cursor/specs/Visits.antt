@@ -6,7 +6,8 @@ use mathlib.Core.List.{map}
 use Rattle.fields.specs.Bytes.{Bytes, part}
 use Rattle.fields.specs.declared.Verdict.the-variants.{Passes}
 use Rattle.records.specs.Records.{recordAt, places}
-use Rattle.lasfile.specs.FileChecks.{headerSize, recordCount, fileVerdict}
+use Rattle.headerfields.specs.HeaderFields.{headerSize, recordCount}
+use Rattle.lasfile.specs.FileChecks.{fileVerdict}
 use Rattle.cursor.specs.Steps.{recordPlaces, stepOf, visited}
 use Rattle.cursor.specs.declared.RecordPlaces.{RecordPlaces}
 use Rattle.cursor.specs.declared.VlrCursor.{VlrCursor}

@@ -18,7 +18,8 @@ use Rattle.points.specs.Points.{bits, numberAt, pointOf, shape, decodeChecks, f
 use Rattle.records.specs.Records.{payloadLength, recordOf, sizeOf, places, walk, walkEnd, recordBytes, recordLen, recordsBytes}
 use Rattle.doubles.specs.Coordinate.{coordinateOf, coordinateBits}
 use Rattle.scaling.specs.Scaling.{doubleAt, scalingIn, scalingOf, within, goodScale, goodOffset, goodScaling, boundsOf}
-use Rattle.lasfile.specs.FileChecks.{headerSize, pointOffset, recordCount, format, recordLength, pointCount, recordsEnd, fileVerdict}
+use Rattle.headerfields.specs.HeaderFields.{headerSize, pointOffset, recordCount, format, recordLength, pointCount}
+use Rattle.lasfile.specs.FileChecks.{recordsEnd, fileVerdict}
 use Rattle.sheet.specs.Sheet.{kind, lineLength, lowest, highest, userID, recordID, firstLine, afterLine, linesFrom, lines, inOrder, lineChecks, linesVerdict, sheetVerdict}
 use Rattle.keeping.specs.Keeping.{containsClass, namesRecord, keepsClass, keepsPoint, keepsRecord}
 use Rattle.publicpart.specs.Bounds.{numbersBytes, upFrom, returnOf, bins, stored, largest, smallest, extremesOf, boundNumbers, bounds}

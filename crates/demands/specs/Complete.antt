@@ -7,7 +7,7 @@ use lib.ListN.{length, drop}
 use Rattle.fields.specs.Lists.{kept, total}
 use Rattle.fields.specs.Bytes.{Bytes, zeros}
 use Rattle.records.specs.Records.{Record, recordLen}
-use Rattle.lasfile.specs.FileChecks.{format, recordLength}
+use Rattle.headerfields.specs.HeaderFields.{headerBlock, format, recordLength}
 use Rattle.keeping.specs.Keeping.{keepsPoint}
 use Rattle.publicpart.specs.Public.{carriedOf, contents, keptRecord, publicOf}
 use Rattle.publicpart.specs.Release.{release}
@@ -31,7 +31,7 @@ pub record Holds (sheet f out : Bytes) : Type 0 where
 pub record Counted (sheet f : Bytes) (n points records : ℕ) : Type 0 where
   pub points-are : points ≡ length (keptPoints sheet f)
   pub records-are : records ≡ length (keptRecords sheet f)
-  pub length-is : n ≡ 227 + total (recordLen 2) (keptRecords sheet f) + length (keptPoints sheet f) * recordLength f
+  pub length-is : n ≡ headerBlock + total (recordLen 2) (keptRecords sheet f) + length (keptPoints sheet f) * recordLength f
 
 pub record Complete : Type 0 where
   pub holds : (sheet f a : Bytes) (n points records : ℕ) → Accepted sheet f a n points records

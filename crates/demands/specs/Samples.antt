@@ -14,7 +14,8 @@ use Rattle.points.specs.declared.Decoded.{Decoded}
 use Rattle.points.specs.declared.Decoded.the-variants.{Fields, Refused}
 use Rattle.points.specs.Points.{decoded}
 use Rattle.doubles.specs.Coordinate.{coordinateBits}
-use Rattle.lasfile.specs.FileChecks.{signature, version, pointOffset, fileVerdict}
+use Rattle.headerfields.specs.HeaderFields.{signature, version, pointOffset}
+use Rattle.lasfile.specs.FileChecks.{fileVerdict}
 use Rattle.sheet.specs.Sheet.{sheetVerdict}
 use Rattle.keeping.specs.Keeping.{keepsClass}
 use Rattle.publicpart.specs.Bounds.{upFrom}

@@ -7,7 +7,8 @@ use Rattle.fields.specs.declared.Verdict.{Verdict}
 use Rattle.fields.specs.declared.Verdict.the-variants.{Passes, Fails}
 use Rattle.scaling.specs.Scaling.{scalingOf}
 use Rattle.scaling.specs.declared.Bounds.{Bounds}
-use Rattle.lasfile.specs.FileChecks.{headerSize, pointOffset, recordCount, format, recordLength, pointCount, fileVerdict}
+use Rattle.headerfields.specs.HeaderFields.{headerSize, pointOffset, recordCount, format, recordLength, pointCount}
+use Rattle.lasfile.specs.FileChecks.{fileVerdict}
 use Rattle.header.specs.declared.Identity.{Identity}
 use Rattle.header.specs.declared.Creation.{Creation}
 use Rattle.header.specs.declared.Layout.{Layout}

@@ -12,6 +12,7 @@ use Rattle.fields.specs.Text.{cut}
 use Rattle.fields.specs.Lists.{total}
 use Rattle.fields.proofs.ByteLaws.{length-bytesOf, length-part, length-join}
 use Rattle.fields.proofs.TextLaws.{length-padded, held}
+use Rattle.headerfields.specs.HeaderFields.{headerBlock}
 use Rattle.publicpart.specs.Bounds.{boundNumbers}
 use Rattle.publicpart.specs.Public.{carriedOf}
 use Rattle.publicpart.specs.Head.{headWidths, headFields}
@@ -21,16 +22,16 @@ use Rattle.heads.specs.Heads.{headWith, bytesIf, headBytes}
 use Rattle.heads.specs.Stores.{stores}
 use Rattle.heads.proofs.FieldStores.{fit-lengths, stores-join, length-numbers}
 
-pub no-head : (s : Bytes) (t : Totals) → length s < 227 → headBytes s t ≡ []
+pub no-head : (s : Bytes) (t : Totals) → length s < headerBlock → headBytes s t ≡ []
 unfolding headBytes bytesIf
-no-head s t h = rw (lt-leb 227 (length s) h)
+no-head s t h = rw (lt-leb headerBlock (length s) h)
 
 -- ---- a source that is long enough
 
-module _ (s : Bytes) (t : Totals) (long : 227 ≤ length s) where
+module _ (s : Bytes) (t : Totals) (long : headerBlock ≤ length s) where
   pub whole-head : headBytes s t ≡ join (headFields (headWith s t))
   unfolding headBytes bytesIf
-  whole-head = rw (le-leb 227 (length s) long)
+  whole-head = rw (le-leb headerBlock (length s) long)
 
   head-widths : map length (headFields (headWith s t)) ≡ headWidths
   unfolding headFields headWith carriedOf total binNumbers boundNumbers
@@ -47,7 +48,7 @@ module _ (s : Bytes) (t : Totals) (long : 227 ≤ length s) where
   pub head-fits : Fit headWidths (headFields (headWith s t))
   head-fits = rw head-widths at (fit-lengths (headFields (headWith s t)))
 
-  pub length-head : length (headBytes s t) ≡ 227
+  pub length-head : length (headBytes s t) ≡ headerBlock
   unfolding total
   length-head = ap length whole-head ∙ length-join headWidths (headFields (headWith s t)) head-fits
 

@@ -5,6 +5,7 @@ use mathlib.Core.List.{[]}
 use lib.ListN.{length}
 use lib.Dec.{leb}
 use Rattle.fields.specs.Bytes.{Bytes, join}
+use Rattle.headerfields.specs.HeaderFields.{headerBlock}
 use Rattle.publicpart.specs.Bounds.{boundNumbers}
 use Rattle.publicpart.specs.Public.{carriedOf}
 use Rattle.publicpart.specs.Head.{Head, headFields}
@@ -29,4 +30,4 @@ bytesIf false b = []
 
 -- the header's bytes; none where the file is shorter than a header
 unfoldable pub headBytes : Bytes → Totals → Bytes
-headBytes s t = bytesIf (leb 227 (length s)) (join (headFields (headWith s t)))
+headBytes s t = bytesIf (leb headerBlock (length s)) (join (headFields (headWith s t)))

@@ -5,7 +5,7 @@ use mathlib.Core.List.{List, [], _∷_}
 use lib.Seq.{sets}
 use Rattle.fields.specs.Bytes.{Bytes, bytesOf}
 use Rattle.fields.specs.Text.{padded}
-use Rattle.lasfile.specs.FileChecks.{signature, version}
+use Rattle.headerfields.specs.HeaderFields.{signature, version, headerBlock}
 use Rattle.publicpart.specs.Public.{Carried}
 use Rattle.publicpart.specs.Head.{Head}
 
@@ -31,7 +31,7 @@ middleStored h d =
     (2 ∷ 2 ∷ 2 ∷ 4 ∷ 4 ∷ 1 ∷ 2 ∷ 4 ∷ [])
     (bytesOf 2 (h .carried .day)
     ∷ bytesOf 2 (h .carried .year)
-    ∷ bytesOf 2 227
+    ∷ bytesOf 2 headerBlock
     ∷ bytesOf 4 (h .offset)
     ∷ bytesOf 4 (h .records)
     ∷ bytesOf 1 (h .carried .format)

@@ -8,6 +8,7 @@ ghost use Rattle.heads.specs.Heads.{headWith, headBytes};
 ghost use Rattle.heads.specs.Stores.{frontStored, middleStored};
 use fields::numbers::number_at;
 use fields::numbers::put_number;
+use headerfields::HEADER_BLOCK;
 use scaling::Bounds;
 use tally::Bins;
 
@@ -37,7 +38,7 @@ fn put_middle(source: &[u8], totals: Totals, out: &mut [u8])
 {
     put_number(out, 90, 2, number_at(source, 90, 2));
     put_number(out, 92, 2, number_at(source, 92, 2));
-    put_number(out, 94, 2, 227);
+    put_number(out, 94, 2, HEADER_BLOCK as u64);
     put_number(out, 96, 4, totals.offset);
     put_number(out, 100, 4, totals.records);
     put_number(out, 104, 1, number_at(source, 104, 1));
@@ -72,7 +73,7 @@ fn put_bounds(bounds: Bounds, out: &mut [u8])
 pub fn put_head(source: &[u8], totals: Totals, out: &mut [u8])
     ensures { λ _. ⌜ now (out .exit) ≡ sets (now (out .entry)) 0 (headBytes (now (source .entry)) totals) ⌝ }
 {
-    if source.len() < 227 {
+    if source.len() < HEADER_BLOCK {
         return;
     }
     put_front(source, out);

@@ -14,7 +14,7 @@ use Rattle.fields.proofs.ListLaws.{kept-here, kept-past}
 use Rattle.fields.proofs.StoreLaws.{sets-append}
 use Rattle.records.specs.Records.{Record, recordAt, sizeOf, places, walk, recordBytes, recordLen, recordsBytes}
 use Rattle.records.proofs.RecordLaws.{walk-step, length-recordBytes}
-use Rattle.lasfile.specs.FileChecks.{headerSize, recordCount}
+use Rattle.headerfields.specs.HeaderFields.{headerBlock, headerSize, recordCount}
 use Rattle.publicpart.specs.Public.{keptRecord, publicOf, restrict, contents}
 use Rattle.keptrecords.specs.declared.KeptRecords.{KeptRecords}
 use Rattle.keptrecords.specs.KeptRecords.{measured}
@@ -123,15 +123,15 @@ measuring-ends sheet s left at count size h m =
 -- ---- copying
 
 pub record Copying (sheet s out₀ out : Bytes) (left at to : ℕ) : Type 0 where
-  pub whole : sets out to (recordsBytes 2 (rest sheet s left at)) ≡ sets out₀ 227 (recordsBytes 2 (publicOf sheet s .records))
+  pub whole : sets out to (recordsBytes 2 (rest sheet s left at)) ≡ sets out₀ headerBlock (recordsBytes 2 (publicOf sheet s .records))
   pub same : length out ≡ length out₀
   pub place : Low at left
   pub low : Low to left
 
-pub copying-begins : (sheet s out : Bytes) → AllBytes s → (left at : ℕ) → left ≡ recordCount s → at ≡ headerSize s → Copying sheet s out out left at 227
+pub copying-begins : (sheet s out : Bytes) → AllBytes s → (left at : ℕ) → left ≡ recordCount s → at ≡ headerSize s → Copying sheet s out out left at headerBlock
 copying-begins sheet s out bytes left at l a =
     rw (l, a) record {
-      whole = ap (λ (rs : List Record). sets out 227 (recordsBytes 2 rs)) (rest-all sheet s);
+      whole = ap (λ (rs : List Record). sets out headerBlock (recordsBytes 2 rs)) (rest-all sheet s);
       same = refl;
       place = omega (arith, few-records s bytes, low-start s bytes);
       low = omega (arith, few-records s bytes);
@@ -166,6 +166,6 @@ module _ (sheet s out₀ out : Bytes) (bytes : AllBytes s) (left at to : ℕ) (m
       }
 
 pub copying-ends : (sheet s out₀ out : Bytes) (left at to : ℕ) → left ≤ 0 → Copying sheet s out₀ out left at to
-    → out ≡ sets out₀ 227 (recordsBytes 2 (publicOf sheet s .records))
+    → out ≡ sets out₀ headerBlock (recordsBytes 2 (publicOf sheet s .records))
 unfolding recordsBytes join
 copying-ends sheet s out₀ out left at to h c = sym (ap (λ (rs : List Record). sets out to (recordsBytes 2 rs)) (rest-none sheet s left at h)) ∙ c .whole

@@ -7,8 +7,10 @@ ghost use Rattle.records.specs.Records.{recordOf, recordLen, recordBytes, recor
 ghost use Rattle.publicpart.specs.Public.{keptRecord, publicOf};
 ghost use Rattle.keptrecords.specs.KeptRecords.{measured};
 ghost use Rattle.keptrecords.specs.RecordParts.{nameBytes, contentBytes};
+ghost use Rattle.headerfields.specs.HeaderFields.{headerBlock};
 use fields::numbers::number_at;
 use fields::numbers::put_number;
+use headerfields::HEADER_BLOCK;
 use records::FRONT;
 
 // How many records are kept, and how long they are with their headers.
@@ -99,11 +101,11 @@ fn put_record_at(vlr: &[u8], out: &mut [u8], to: usize)
 
 // Writes the records that a sheet keeps of a file one after the other, directly after the header.
 pub fn copy_records(file: &[u8], sheet: &[u8], out: &mut [u8])
-    ensures { λ _. ⌜ now (out .exit) ≡ sets (now (out .entry)) 227 (recordsBytes 2 (publicOf (now (sheet .entry)) (now (file .entry)) .records)) ⌝ }
+    ensures { λ _. ⌜ now (out .exit) ≡ sets (now (out .entry)) headerBlock (recordsBytes 2 (publicOf (now (sheet .entry)) (now (file .entry)) .records)) ⌝ }
 {
     let mut at = number_at(file, 94, 2) as usize;
     let mut left = number_at(file, 100, 4);
-    let mut to = 227;
+    let mut to = HEADER_BLOCK;
     while 0 < left {
         let vlr = runs::part_at(file, at, file.len());
         if keeps(sheet, vlr) {

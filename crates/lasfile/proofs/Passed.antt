@@ -12,13 +12,14 @@ use Rattle.fields.specs.declared.Verdict.the-variants.{Passes}
 use Rattle.fields.proofs.CheckLaws.{none-fails, all-clear}
 use Rattle.formats.specs.Formats.{formatSize}
 use Rattle.scaling.specs.Scaling.{scalingOf, goodScaling}
-use Rattle.lasfile.specs.FileChecks.{signature, version, headerSize, pointOffset, format, recordLength, pointCount, recordsEnd, fileChecks, fileVerdict}
+use Rattle.headerfields.specs.HeaderFields.{signature, version, headerBlock, headerSize, pointOffset, format, recordLength, pointCount}
+use Rattle.lasfile.specs.FileChecks.{recordsEnd, fileChecks, fileVerdict}
 
 pub record Passed (s : Bytes) : Type 0 where
-  pub whole : 227 ≤ length s
+  pub whole : headerBlock ≤ length s
   pub signed : part 0 4 s ≡ signature
   pub versioned : part 24 2 s ≡ version
-  pub headerLow : 227 ≤ headerSize s
+  pub headerLow : headerBlock ≤ headerSize s
   pub headerHigh : headerSize s ≤ length s
   pub formatted : format s ≤ 3
   pub recordLow : formatSize (format s) ≤ recordLength s

@@ -9,7 +9,8 @@ use Rattle.fields.specs.declared.Verdict.the-variants.{Passes}
 use Rattle.fields.proofs.ByteLaws.{num-part-lt}
 use Rattle.records.specs.Records.{sizeOf, walkEnd}
 use Rattle.records.proofs.RecordLaws.{walkEnd-step, walk-grows, front-in-size}
-use Rattle.lasfile.specs.FileChecks.{headerSize, recordCount, pointOffset, recordsEnd, fileVerdict}
+use Rattle.headerfields.specs.HeaderFields.{headerSize, recordCount, pointOffset}
+use Rattle.lasfile.specs.FileChecks.{recordsEnd, fileVerdict}
 use Rattle.lasfile.proofs.Passed.{passed}
 
 -- `left` records from `at` on lie before the points

@@ -1,51 +1,23 @@
--- The file checks 1 to 10, and the fields of the header that they look at.
+-- The file checks 1 to 10.
 -- Assumes nothing.
 use Prim.Native.Nat.{ℕ, _+_, _*_}
 use mathlib.Core.List.{List, [], _∷_}
 use lib.ListN.{length}
-use Rattle.fields.specs.Bytes.{Bytes, part, num}
+use Rattle.fields.specs.Bytes.{Bytes, part}
 use Rattle.fields.specs.Checks.{Check, firstFailing, _below_, _differs-from_, not-so, _or_}
 use Rattle.fields.specs.declared.Verdict.{Verdict}
 use Rattle.formats.specs.Formats.{formatSize}
+use Rattle.headerfields.specs.HeaderFields.{signature, version, headerBlock, headerSize, pointOffset, recordCount, format, recordLength, pointCount}
 use Rattle.records.specs.Records.{walkEnd}
 use Rattle.scaling.specs.Scaling.{scalingOf, goodScaling}
-
--- "LASF", and version 1.2
-abbrev pub signature : Bytes
-signature = 76 ∷ 65 ∷ 83 ∷ 70 ∷ []
-
-abbrev pub version : Bytes
-version = 1 ∷ 2 ∷ []
-
--- ---- fields that the checks look at
-
-unfoldable pub headerSize : Bytes → ℕ
-headerSize s = num (part 94 2 s)
-
-unfoldable pub pointOffset : Bytes → ℕ
-pointOffset s = num (part 96 4 s)
-
-unfoldable pub recordCount : Bytes → ℕ
-recordCount s = num (part 100 4 s)
-
-unfoldable pub format : Bytes → ℕ
-format s = num (part 104 1 s)
-
-unfoldable pub recordLength : Bytes → ℕ
-recordLength s = num (part 105 2 s)
-
-unfoldable pub pointCount : Bytes → ℕ
-pointCount s = num (part 107 4 s)
-
--- ---- the file checks, 1 to 10
 
 -- over a file's length, its header and the place where its records end
 abbrev pub fileChecksOf : ℕ → Bytes → ℕ → List Check
 fileChecksOf n header recordsEnd =
-    (1, n below 227)
+    (1, n below headerBlock)
     ∷ (2, part 0 4 header differs-from signature)
     ∷ (3, part 24 2 header differs-from version)
-    ∷ (4, headerSize header below 227 or n below headerSize header)
+    ∷ (4, headerSize header below headerBlock or n below headerSize header)
     ∷ (5, 3 below format header)
     ∷ (6, recordLength header below formatSize (format header))
     ∷ (7, pointOffset header below headerSize header or n below pointOffset header)

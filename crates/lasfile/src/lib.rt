@@ -4,13 +4,14 @@ ghost use lib.ListN.{take, drop};
 ghost use Rattle.fields.specs.Checks.{firstFailing};
 ghost use Rattle.lasfile.specs.FileChecks.{fileChecks, fileVerdict};
 use fields::Verdict;
+use headerfields::HEADER_BLOCK;
 
 // Checks 1 to 7, which look at the header and the file's length.
 fn check_header(file: &[u8]) -> Verdict
     ensures { λ r. ⌜ r ≡ firstFailing (take 7 (fileChecks (now (file .entry)))) ⌝ }
 {
     let length = file.len();
-    if length < 227 {
+    if length < HEADER_BLOCK {
         return Verdict::Fails(1);
     }
     if !runs::same_bytes(runs::part_at(file, 0, 4), b"LASF") {
@@ -20,7 +21,7 @@ fn check_header(file: &[u8]) -> Verdict
         return Verdict::Fails(3);
     }
     let size = fields::numbers::number_at(file, 94, 2) as usize;
-    if size < 227 {
+    if size < HEADER_BLOCK {
         return Verdict::Fails(4);
     }
     if length < size {

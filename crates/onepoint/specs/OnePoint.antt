@@ -9,7 +9,8 @@ use Rattle.fields.specs.declared.Verdict.{Verdict}
 use Rattle.fields.specs.declared.Verdict.the-variants.{Passes, Fails}
 use Rattle.points.specs.Points.{pointOf}
 use Rattle.points.specs.declared.Point.{Point}
-use Rattle.lasfile.specs.FileChecks.{pointOffset, pointCount, recordLength, format, fileVerdict}
+use Rattle.headerfields.specs.HeaderFields.{pointOffset, pointCount, recordLength, format}
+use Rattle.lasfile.specs.FileChecks.{fileVerdict}
 use Rattle.onepoint.specs.declared.PointAt.{PointAt}
 use Rattle.onepoint.specs.declared.PointAt.the-variants.{At, Refused}
 

@@ -13,7 +13,8 @@ use Rattle.fields.proofs.ByteLaws.{num-bytesOf, pieces-back, length-join-pieces
 use Rattle.records.specs.Records.{walk, recordsBytes}
 use Rattle.records.proofs.RecordLaws.{walk-back, walkEnd-back, length-recordsBytes}
 use Rattle.scaling.specs.Scaling.{scalingIn, scalingOf}
-use Rattle.lasfile.specs.FileChecks.{headerSize, pointOffset, recordCount, format, recordLength, pointCount, recordsEnd}
+use Rattle.headerfields.specs.HeaderFields.{headerBlock, headerSize, pointOffset, recordCount, format, recordLength, pointCount}
+use Rattle.lasfile.specs.FileChecks.{recordsEnd}
 use Rattle.lasfile.proofs.Passed.{Passed}
 use Rattle.publicpart.specs.Bounds.{numbersBytes, bins, bounds}
 use Rattle.publicpart.specs.Public.{Public, carriedOf, contents}
@@ -57,9 +58,9 @@ module _ (p : Public) (h : Sound p) where
     field : (i : ℕ) → i < 16 → part (start i headWidths) (getD headWidths i 0) file ≡ getD (headFields (headOf p)) i []
     field i l = rw in-parts (head-field (headOf p) fitting (recordsBytes 2 (p .records) ++ (join (p .points) ++ zeros k)) i l)
 
-    headerSize-back : headerSize file ≡ 227
+    headerSize-back : headerSize file ≡ headerBlock
     unfolding headerSize headFields
-    headerSize-back = rw (field 7 (lit< tt)) (num-bytesOf 2 227 (lit< tt))
+    headerSize-back = rw (field 7 (lit< tt)) (num-bytesOf 2 headerBlock (lit< tt))
 
     pointOffset-back : pointOffset file ≡ newOffset p
     unfolding pointOffset headFields headOf
@@ -99,13 +100,13 @@ module _ (p : Public) (h : Sound p) where
     walk-is : walk 2 (recordCount file) (headerSize file) file ≡ p .records
     walk-is =
         rw (recordCount-back, headerSize-back, in-parts)
-        (walk-back 2 (p .records) (h .records) 227 (join (headFields (headOf p))) (join (p .points) ++ zeros k) (length-head (headOf p) fitting))
+        (walk-back 2 (p .records) (h .records) headerBlock (join (headFields (headOf p))) (join (p .points) ++ zeros k) (length-head (headOf p) fitting))
 
     recordsEnd-is : recordsEnd file ≡ newOffset p
     unfolding newOffset recordsEnd
     recordsEnd-is =
         rw (recordCount-back, headerSize-back, in-parts)
-        (walkEnd-back 2 (p .records) (h .records) 227 (join (headFields (headOf p))) (join (p .points) ++ zeros k) (length-head (headOf p) fitting))
+        (walkEnd-back 2 (p .records) (h .records) headerBlock (join (headFields (headOf p))) (join (p .points) ++ zeros k) (length-head (headOf p) fitting))
 
     offset-is : length (join (headFields (headOf p)) ++ recordsBytes 2 (p .records)) ≡ newOffset p
     unfolding newOffset
@@ -120,7 +121,7 @@ module _ (p : Public) (h : Sound p) where
     points-are : pieces (pointCount file) (recordLength file) (drop (pointOffset file) file) ≡ p .points
     points-are = rw (pointCount-back, recordLength-back, pointOffset-back, points-start) (pieces-back (p .carried .recordLength) (p .points) (zeros k) (h .points))
 
-    above : 227 ≤ newOffset p
+    above : headerBlock ≤ newOffset p
     unfolding newOffset
     above = omega arith
 

@@ -8,6 +8,7 @@ use Rattle.fields.specs.Lists.{total}
 use Rattle.fields.specs.Bytes.{Bytes, part, join, start, Fit}
 use Rattle.fields.proofs.ByteLaws.{length-bytesOf, field-back, length-join}
 use Rattle.fields.proofs.TextLaws.{length-padded}
+use Rattle.headerfields.specs.HeaderFields.{headerBlock}
 use Rattle.publicpart.specs.Bounds.{numbersBytes}
 use Rattle.publicpart.specs.Head.{Head, headWidths, headFields}
 use Rattle.publicpart.proofs.BoundLaws.{length-numbers}
@@ -51,7 +52,7 @@ module _ (h : Head) (f : Fitting h) where
       ▸ numbers-fit 8 6 (h .bounds) (f .bounds)
       ▸ tt
 
-  pub length-head : length (join (headFields h)) ≡ 227
+  pub length-head : length (join (headFields h)) ≡ headerBlock
   length-head = unfold total in length-join headWidths (headFields h) fit
 
   -- field i, whatever follows the header

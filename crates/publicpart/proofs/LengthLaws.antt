@@ -9,7 +9,8 @@ use Rattle.fields.proofs.ListLaws.{total-kept, length-kept}
 use Rattle.fields.proofs.ByteLaws.{length-pieces}
 use Rattle.records.specs.Records.{recordLen}
 use Rattle.records.proofs.RecordLaws.{walk-total}
-use Rattle.lasfile.specs.FileChecks.{headerSize, pointOffset, recordCount, recordLength, pointCount, recordsEnd}
+use Rattle.headerfields.specs.HeaderFields.{headerSize, pointOffset, recordCount, recordLength, pointCount}
+use Rattle.lasfile.specs.FileChecks.{recordsEnd}
 use Rattle.lasfile.proofs.Passed.{Passed}
 use Rattle.keeping.specs.Keeping.{keepsPoint}
 use Rattle.publicpart.specs.Public.{Public, carriedOf, contents, restrict, publicOf, keptRecord}

@@ -14,7 +14,8 @@ use Rattle.formats.specs.Formats.{formatSize}
 use Rattle.records.specs.Records.{recordLen}
 use Rattle.records.proofs.RecordLaws.{SoundRecord, walk-sound, walk-total, length-walk}
 use Rattle.scaling.specs.Scaling.{scalingIn, scalingOf, goodScaling}
-use Rattle.lasfile.specs.FileChecks.{headerSize, pointOffset, recordCount, format, recordLength, pointCount, recordsEnd}
+use Rattle.headerfields.specs.HeaderFields.{headerSize, pointOffset, recordCount, format, recordLength, pointCount}
+use Rattle.lasfile.specs.FileChecks.{recordsEnd}
 use Rattle.lasfile.proofs.Passed.{Passed}
 use Rattle.keeping.specs.Keeping.{keepsPoint}
 use Rattle.publicpart.specs.Public.{Carried, Public, carriedOf, contents, restrict, keptRecord}

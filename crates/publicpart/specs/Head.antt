@@ -4,7 +4,7 @@ use Prim.Native.Nat.{ℕ}
 use mathlib.Core.List.{List, [], _∷_}
 use Rattle.fields.specs.Bytes.{Bytes, bytesOf}
 use Rattle.fields.specs.Text.{padded}
-use Rattle.lasfile.specs.FileChecks.{signature, version}
+use Rattle.headerfields.specs.HeaderFields.{signature, version, headerBlock}
 use Rattle.publicpart.specs.Bounds.{numbersBytes}
 use Rattle.publicpart.specs.Public.{Carried}
 
@@ -31,7 +31,7 @@ headFields h =
     ∷ padded 32 (h .carried .software)
     ∷ bytesOf 2 (h .carried .day)
     ∷ bytesOf 2 (h .carried .year)
-    ∷ bytesOf 2 227
+    ∷ bytesOf 2 headerBlock
     ∷ bytesOf 4 (h .offset)
     ∷ bytesOf 4 (h .records)
     ∷ bytesOf 1 (h .carried .format)

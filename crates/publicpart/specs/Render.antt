@@ -5,6 +5,7 @@ use mathlib.Core.List.{_++_}
 use lib.ListN.{length}
 use Rattle.fields.specs.Lists.{total}
 use Rattle.fields.specs.Bytes.{Bytes, join}
+use Rattle.headerfields.specs.HeaderFields.{headerBlock}
 use Rattle.records.specs.Records.{recordLen, recordsBytes}
 use Rattle.scaling.specs.Scaling.{scalingIn}
 use Rattle.publicpart.specs.Bounds.{bins, bounds}
@@ -13,7 +14,7 @@ use Rattle.publicpart.specs.Head.{Head, headFields}
 
 -- the new point offset: the records directly after the header, the points directly after those
 unfoldable pub newOffset : Public → ℕ
-newOffset p = 227 + total (recordLen 2) (p .records)
+newOffset p = headerBlock + total (recordLen 2) (p .records)
 
 unfoldable pub headOf : Public → Head
 headOf p =

@@ -18,7 +18,8 @@ use Rattle.scaling.specs.Scaling.{scalingIn, scalingOf}
 use Rattle.scaling.specs.declared.Scaling.{Scaling}
 use Rattle.records.specs.Records.{recordLen, recordsBytes}
 use Rattle.records.proofs.RecordLaws.{length-recordsBytes}
-use Rattle.lasfile.specs.FileChecks.{pointOffset, pointCount, recordLength, format, fileVerdict}
+use Rattle.headerfields.specs.HeaderFields.{headerBlock, pointOffset, pointCount, recordLength, format}
+use Rattle.lasfile.specs.FileChecks.{fileVerdict}
 use Rattle.lasfile.proofs.Passed.{passed}
 use Rattle.keeping.specs.Keeping.{keepsPoint}
 use Rattle.pointruns.specs.PointRuns.{pointsOf}
@@ -96,7 +97,7 @@ module _ (sheet s : Bytes) (bytes : AllBytes s) (passes : fileVerdict s ≡ Pass
   abbrev points : Bytes
   points = join (part-of .points)
 
-  length-of-head : length head ≡ 227
+  length-of-head : length head ≡ headerBlock
   length-of-head = length-head (headOf part-of) (fitting part-of sound-part)
 
   length-of-records : length records ≡ total (recordLen 2) (part-of .records)
@@ -180,23 +181,23 @@ module _ (sheet s : Bytes) (bytes : AllBytes s) (passes : fileVerdict s ≡ Pass
 
       -- where the header goes
       abbrev front : Bytes
-      front = take 227 out
+      front = take headerBlock out
 
-      offset-is : newOffset part-of ≡ 227 + length records
+      offset-is : newOffset part-of ≡ headerBlock + length records
       unfolding newOffset
       offset-is = omega (arith, length-of-records)
 
-      length-front : length front ≡ 227
-      length-front = length-take-le 227 out (omega (arith, render-length, offset-is))
+      length-front : length front ≡ headerBlock
+      length-front = length-take-le headerBlock out (omega (arith, render-length, offset-is))
 
       length-both : length (front ++ records) ≡ newOffset part-of
       length-both = omega (arith, length-append front records, length-front, offset-is)
 
-      records-stored : take (newOffset part-of) (sets out 227 records) ≡ front ++ records
+      records-stored : take (newOffset part-of) (sets out headerBlock records) ≡ front ++ records
       records-stored =
-          rw (sets-eq records out 227 (omega (arith, render-length, offset-is))) (take-at (front ++ records) (drop (227 + length records) out) (newOffset part-of) length-both)
+          rw (sets-eq records out headerBlock (omega (arith, render-length, offset-is))) (take-at (front ++ records) (drop (headerBlock + length records) out) (newOffset part-of) length-both)
 
-      points-stored : withPoints table s (newOffset part-of) (sets out 227 records) ≡ (front ++ records) ++ (points ++ z)
+      points-stored : withPoints table s (newOffset part-of) (sets out headerBlock records) ≡ (front ++ records) ++ (points ++ z)
       unfolding withPoints pointsBytes
       points-stored =
           let n : length out - newOffset part-of - length points ≡ length out - length (render part-of) = omega (arith, render-length, length-of-points) in
@@ -211,8 +212,8 @@ module _ (sheet s : Bytes) (bytes : AllBytes s) (passes : fileVerdict s ≡ Pass
 
 -- what was counted and measured, over the released file
 pub record Sized (sheet s : Bytes) (n : ℕ) (k : KeptRecords) (len : ℕ) : Type 0 where
-  pub offset : 227 + k .length ≡ newOffset (publicOf sheet s)
-  pub needed : 227 + k .length + n * len ≡ length (render (publicOf sheet s))
+  pub offset : headerBlock + k .length ≡ newOffset (publicOf sheet s)
+  pub needed : headerBlock + k .length + n * len ≡ length (render (publicOf sheet s))
   pub points : n ≡ length (publicOf sheet s .points)
   pub records : k .count ≡ length (publicOf sheet s .records)
   pub most : length (render (publicOf sheet s)) ≤ length s
@@ -223,7 +224,7 @@ pub sized : (sheet s : Bytes) → AllBytes s → fileVerdict s ≡ Passes → (t
 unfolding measured
 sized sheet s bytes passes table right n by k m len l =
     let points : n ≡ length (publicOf sheet s .points) = by ∙ ap length (points-are sheet s bytes passes table right) in
-    let offset : 227 + k .length ≡ newOffset (publicOf sheet s) = unfold newOffset in ap (λ (r : KeptRecords). 227 + r .length) m in
+    let offset : headerBlock + k .length ≡ newOffset (publicOf sheet s) = unfold newOffset in ap (λ (r : KeptRecords). headerBlock + r .length) m in
     record {
       offset = offset;
       needed = rw (offset, points, l) (sym (render-length sheet s bytes passes));

@@ -24,7 +24,7 @@ pub fn release(file: &[u8], sheet: &[u8], out: &mut [u8]) -> Answer
     let points = keptpoints::count_points(&file[offset..], record_length, count, table);
     let kept = keptrecords::measure(file, sheet);
     let records = kept.count;
-    let start = 227 + kept.length;
+    let start = headerfields::HEADER_BLOCK + kept.length;
     let needed = start + points * record_length;
     if out.len() < needed {
         return Answer::Short(needed);

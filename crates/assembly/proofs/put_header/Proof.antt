@@ -3,7 +3,7 @@ use mathlib.Core.Path.{_≡_, _∙_}
 use denote.Ref.{now}
 use lib.ListN.{drop}
 use lib.Seq.{sets}
-use Rattle.lasfile.specs.FileChecks.{recordLength}
+use Rattle.headerfields.specs.HeaderFields.{recordLength}
 use Rattle.pointruns.specs.PointRuns.{pointsOf}
 use Rattle.tally.specs.Tally.{tallyOf}
 use Rattle.heads.specs.declared.Totals.{Totals}

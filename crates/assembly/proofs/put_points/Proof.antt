@@ -6,7 +6,7 @@ use mathlib.Core.List.{_++_}
 use denote.Ref.{now}
 use lib.ListN.{length, take, drop}
 use Rattle.fields.specs.Bytes.{Bytes, join, zeros}
-use Rattle.lasfile.specs.FileChecks.{pointOffset, pointCount, recordLength}
+use Rattle.headerfields.specs.HeaderFields.{pointOffset, pointCount, recordLength}
 use Rattle.keptrecords.proofs.KeptLaws.{from-place}
 use Rattle.keptpoints.specs.KeptPoints.{keptPoints}
 use Rattle.assembly.specs.Assembly.{pointsBytes}

@@ -4,7 +4,7 @@ use denote.Ref.{now}
 use lib.ListN.{length, drop}
 use Rattle.fields.specs.Bytes.{part}
 use Rattle.scaling.specs.declared.Bounds.{Bounds}
-use Rattle.lasfile.specs.FileChecks.{recordLength}
+use Rattle.headerfields.specs.HeaderFields.{recordLength}
 use Rattle.pointruns.specs.PointRuns.{pointsOf}
 use Rattle.tally.specs.declared.Tally.{Tally}
 use Rattle.tally.specs.Tally.{tallyOf}

@@ -3,6 +3,7 @@ use mathlib.Core.Path.{_≡_, _∙_}
 use denote.Ref.{now}
 use lib.Seq.{sets}
 use Rattle.fields.specs.Bytes.{Bytes}
+use Rattle.headerfields.specs.HeaderFields.{headerBlock}
 use Rattle.records.specs.Records.{recordsBytes}
 use Rattle.publicpart.specs.Public.{publicOf}
 use Rattle.assembly.specs.Assembly.{withPoints, withHead, written}
@@ -29,7 +30,7 @@ returns c =
     let s = now (a .file) in
     let recorded : Bytes = c .before .before .before .before .before .before .before .before .before .before .copy-records .last .1 .1 .0 in
     let pointed : Bytes = c .before .before .before .before .before .before .put-points .last .1 .1 .1 .0 in
-    let records : recorded ≡ sets (now (a .out)) 227 (recordsBytes 2 (publicOf (now (a .sheet)) s .records)) = c .before .before .before .before .before .before .before .before .before .before .copy-records .ensures in
+    let records : recorded ≡ sets (now (a .out)) headerBlock (recordsBytes 2 (publicOf (now (a .sheet)) s .records)) = c .before .before .before .before .before .before .before .before .before .before .copy-records .ensures in
     let points : pointed ≡ withPoints (a .table) s (a .start) recorded = c .before .before .before .before .before .before .put-points .ensures in
     let headed : c .before .before .put-header .last .1 .1 .1 .1 .0 ≡ withHead s (a .points) (a .records) (a .start) pointed = c .before .before .put-header .ensures in
     headed ∙ rw (points, records)

@@ -12,7 +12,8 @@ use Rattle.fields.specs.Bytes.{Bytes, AllBytes, part, num}
 use Rattle.fields.specs.declared.Verdict.the-variants.{Passes}
 use Rattle.records.specs.Records.{places, sizeOf}
 use Rattle.records.proofs.RecordLaws.{size-is}
-use Rattle.lasfile.specs.FileChecks.{headerSize, recordCount, fileVerdict}
+use Rattle.headerfields.specs.HeaderFields.{headerSize, recordCount}
+use Rattle.lasfile.specs.FileChecks.{fileVerdict}
 use Rattle.lasfile.proofs.Walking.{Walking, begin, one-more, low-place, onwards}
 use Rattle.geokeys.specs.GeoKeys.{first, isProjection, projectionPlace}
 use Rattle.geokeys.specs.Places.{placeIn}

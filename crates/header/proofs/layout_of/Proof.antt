@@ -1,5 +1,5 @@
 -- `header::layout_of` meets its contract. Assumes nothing.
-use Rattle.lasfile.specs.FileChecks.{headerSize, pointOffset, recordCount, format, recordLength, pointCount}
+use Rattle.headerfields.specs.HeaderFields.{headerSize, pointOffset, recordCount, format, recordLength, pointCount}
 use Rattle.header.specs.Header.{layoutOf}
 use Rattle.header.proofs.layout_of.Statement.{statement}
 use Rattle.header.proofs.layout_of.Tie as tie

@@ -2,7 +2,7 @@
 use mathlib.Core.Path.{ap, _∙_}
 use lib.ListN.{length}
 use lib.Seq.{length-sets}
-use Rattle.lasfile.specs.FileChecks.{format, recordLength}
+use Rattle.headerfields.specs.HeaderFields.{format, recordLength}
 use Rattle.publicpart.specs.Public.{carriedOf}
 use Rattle.heads.specs.Heads.{headWith}
 use Rattle.heads.specs.Stores.{middleStored}

@@ -7,7 +7,7 @@ use borrow.Author.Needs.{needs}
 use lib.Seq.{sets}
 use Rattle.fields.specs.Bytes.{Bytes, AllBytes}
 use Rattle.records.specs.Records.{recordOf, recordLen, recordBytes}
-use Rattle.lasfile.specs.FileChecks.{recordCount, headerSize}
+use Rattle.headerfields.specs.HeaderFields.{recordCount, headerSize}
 use Rattle.publicpart.specs.Public.{keptRecord}
 use Rattle.keptrecords.proofs.KeptLaws.{from-place, Copying, copying-begins, copying-kept, copying-past, copying-ends}
 use Rattle.keptrecords.proofs.copy_records.Statement.{statement}

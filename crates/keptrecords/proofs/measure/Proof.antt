@@ -6,7 +6,7 @@ use native.Mathlib.Omega.{arith}
 use borrow.Author.Needs.{needs}
 use Rattle.fields.specs.Bytes.{Bytes, AllBytes}
 use Rattle.records.specs.Records.{recordOf, recordLen}
-use Rattle.lasfile.specs.FileChecks.{recordCount, headerSize}
+use Rattle.headerfields.specs.HeaderFields.{recordCount, headerSize}
 use Rattle.publicpart.specs.Public.{keptRecord}
 use Rattle.keptrecords.proofs.KeptLaws.{from-place, Measuring, measuring-begins, measuring-kept, measuring-past, measuring-ends}
 use Rattle.keptrecords.proofs.measure.Statement.{statement}

@@ -9,7 +9,8 @@ use lib.Dec.{T, leb}
 use Rattle.fields.proofs.CheckLaws.{first-fails, first-clear, all-clear}
 use Rattle.scaling.specs.Scaling.{scalingOf, goodScaling}
 use Rattle.lasfile.proofs.Passed.{product-small}
-use Rattle.lasfile.specs.FileChecks.{headerSize, pointOffset, recordCount, recordLength, pointCount, recordsEnd}
+use Rattle.headerfields.specs.HeaderFields.{headerSize, pointOffset, recordCount, recordLength, pointCount}
+use Rattle.lasfile.specs.FileChecks.{recordsEnd}
 use borrow.Author.Needs.{needs}
 use Rattle.lasfile.proofs.check_contents.Statement.{statement}
 use Rattle.lasfile.proofs.check_contents.Tie as tie

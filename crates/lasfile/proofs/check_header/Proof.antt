@@ -7,7 +7,7 @@ use denote.Ref.{now}
 use Rattle.fields.specs.Bytes.{part}
 use Rattle.fields.proofs.ByteLaws.{differs, agrees}
 use Rattle.fields.proofs.CheckLaws.{first-fails, first-clear}
-use Rattle.lasfile.specs.FileChecks.{signature, version, headerSize}
+use Rattle.headerfields.specs.HeaderFields.{signature, version, headerSize}
 use borrow.Author.Needs.{needs}
 use Rattle.lasfile.proofs.check_header.Statement.{statement}
 use Rattle.lasfile.proofs.check_header.Tie as tie

@@ -7,7 +7,7 @@ use Rattle.layouts.specs.declared.Layout.{Layout}
 use Rattle.formats.specs.Formats.{formatSize}
 use Rattle.layouts.specs.Layouts.{layoutOf}
 use Rattle.fields.proofs.CheckLaws.{first-fails, first-clear, all-clear}
-use Rattle.lasfile.specs.FileChecks.{format, recordLength, pointOffset, headerSize}
+use Rattle.headerfields.specs.HeaderFields.{format, recordLength, pointOffset, headerSize}
 use borrow.Author.Needs.{needs}
 use Rattle.lasfile.proofs.check_points.Statement.{statement}
 use Rattle.lasfile.proofs.check_points.Tie as tie

@@ -15,7 +15,8 @@ use Rattle.fields.proofs.CheckLaws.{first-fails, all-clear, then-passes, then-f
 use Rattle.points.specs.declared.Decoded.the-variants.{Fields}
 use Rattle.points.specs.Points.{pointOf, decoded}
 use Rattle.points.proofs.AnswerLaws.{decodes}
-use Rattle.lasfile.specs.FileChecks.{pointOffset, pointCount, recordLength, format, fileVerdict}
+use Rattle.headerfields.specs.HeaderFields.{pointOffset, pointCount, recordLength, format}
+use Rattle.lasfile.specs.FileChecks.{fileVerdict}
 use Rattle.onepoint.specs.OnePoint.{pointChecks, pointPlace, pointIf, pointAtOf}
 use Rattle.onepoint.specs.declared.PointAt.the-variants.{At, Refused}
 use Rattle.lasfile.proofs.Passed.{passed, product-small}

@@ -8,7 +8,8 @@ use lib.ListN.{length, drop}
 use Rattle.fields.specs.Bytes.{AllBytes, zeros}
 use Rattle.fields.specs.declared.Verdict.the-variants.{Passes}
 use Rattle.fields.proofs.StoreLaws.{tail-part}
-use Rattle.lasfile.specs.FileChecks.{pointOffset, pointCount, recordLength, fileVerdict}
+use Rattle.headerfields.specs.HeaderFields.{headerBlock, pointOffset, pointCount, recordLength}
+use Rattle.lasfile.specs.FileChecks.{fileVerdict}
 use Rattle.lasfile.proofs.Passed.{passed}
 use Rattle.sheet.specs.Sheet.{sheetVerdict}
 use Rattle.keptpoints.specs.KeptPoints.{keptPoints}
@@ -120,7 +121,7 @@ returns-3 c =
     let a = c .before .before .before .before .before .before .before .before .before .before .before .before .before .before .before .before .before .before .args in
     let k = c .before .before .measure .result in
     let n = c .before .before .before .count-points .result in
-    let needed : _≡_ {A = Outcome} (Short (227 + k .length + n * c .before .before .before .before .before .before .before .number-at2 .result), now (a .out)) (Short (length (render (publicOf (now (a .sheet)) (now (a .file))))), now (a .out)) =
+    let needed : _≡_ {A = Outcome} (Short (headerBlock + k .length + n * c .before .before .before .before .before .before .before .number-at2 .result), now (a .out)) (Short (length (render (publicOf (now (a .sheet)) (now (a .file))))), now (a .out)) =
     ap (λ (n : ℕ). (Short n, now (a .out))) (m .needed) in
     needed ∙ sym (release-short _ _ _ (file-passes (c .before .before .before .before .before .before .before .before .before .before .before .before)) (sheet-passes (c .before .before .before .before .before .before .before .before .before)) (omega (arith, m .needed)))
 
@@ -154,7 +155,7 @@ returns-4 c =
     let p = publicOf (now (a .sheet)) (now (a .file)) in
     let k = c .before .before .before .before .before .before .measure .result in
     let n = c .before .before .before .before .before .before .before .count-points .result in
-    let numbers : Released (227 + k .length + n * c .before .before .before .before .before .before .before .before .before .before .before .number-at2 .result) n (k .count) ≡ Released (length (render p)) (length (p .points)) (length (p .records)) =
+    let numbers : Released (headerBlock + k .length + n * c .before .before .before .before .before .before .before .before .before .before .before .number-at2 .result) n (k .count) ≡ Released (length (render p)) (length (p .points)) (length (p .records)) =
     rw (m .needed, m .points, m .records) in
     (λ i. (numbers i, output-is c i))
     ∙ sym (release-long _ _ _ (file-passes (c .before .before .before .before .before .before .before .before .before .before .before .before .before .before .before .before)) (sheet-passes (c .before .before .before .before .before .before .before .before .before .before .before .before .before)) (omega (arith, m .needed)))

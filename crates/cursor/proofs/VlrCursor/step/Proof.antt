@@ -12,7 +12,8 @@ use Rattle.fields.specs.Bytes.{Bytes}
 use Rattle.fields.specs.declared.Verdict.the-variants.{Passes}
 use Rattle.records.specs.Records.{walkEnd, sizeOf}
 use Rattle.records.proofs.RecordLaws.{walkEnd-one, front-in-size}
-use Rattle.lasfile.specs.FileChecks.{headerSize, pointOffset, recordCount, fileVerdict}
+use Rattle.headerfields.specs.HeaderFields.{headerSize, pointOffset, recordCount}
+use Rattle.lasfile.specs.FileChecks.{fileVerdict}
 use Rattle.cursor.specs.Steps.{recordPlaces, nextCursor}
 use Rattle.cursor.specs.declared.RecordPlaces.{RecordPlaces}
 use Rattle.cursor.specs.declared.Step.{Step}

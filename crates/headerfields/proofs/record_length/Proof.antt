@@ -1,0 +1,11 @@
+-- `headerfields::record_length` meets its contract. Assumes nothing.
+use Rattle.headerfields.specs.HeaderFields.{recordLength}
+use Rattle.headerfields.proofs.record_length.Statement.{statement}
+use Rattle.headerfields.proofs.record_length.Tie as tie
+
+returns : tie.Need-returns
+unfolding recordLength
+returns c = c .number-at .ensures
+
+pub record-length-spec : {M : Type 1} → statement M
+record-length-spec = tie.close (tie.spec (λ c κs. tt) returns)
