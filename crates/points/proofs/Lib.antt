@@ -1,4 +1,3 @@
-pub mod SignedLaws
 mod FieldLaws
 pub mod AnswerLaws
 pub mod Samples

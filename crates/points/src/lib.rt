@@ -2,8 +2,6 @@
 ghost use mathlib.Core.Path.{_≡_};
 ghost use Prim.Native.Nat.{_<_, _^_, min};
 ghost use mathlib.Core.Bool.{not};
-ghost use mir.Syntax.{w8, w32};
-ghost use mir.Val.{toZ};
 ghost use Rattle.fields.specs.Bytes.{num, part};
 ghost use Rattle.fields.specs.Checks.{fails};
 ghost use Rattle.points.specs.Points.{numberAt, shape, pointOf, decoded};
@@ -33,34 +31,6 @@ pub struct Point {
 pub enum Decoded {
     Fields(Point),
     Refused(u64),
-}
-
-// 32 bits in two's complement, as a number.
-fn i32_of(u: u32) -> i32
-    ensures { λ r. ⌜ r ≡ toZ w32 u ⌝ }
-{
-    if u < 2147483648 {
-        u as i32
-    } else {
-        -1 - ((4294967295 - u) as i32)
-    }
-}
-
-// 8 bits in two's complement, as a number.
-fn i8_of(u: u8) -> i8
-    ensures { λ r. ⌜ r ≡ toZ w8 u ⌝ }
-{
-    if u < 128 {
-        u as i8
-    } else {
-        -1 - ((255 - u) as i8)
-    }
-}
-
-fn i32_at(s: &[u8], at: usize) -> i32
-    ensures { λ r. ⌜ r ≡ toZ w32 (num (part at 4 (now (s .entry)))) ⌝ }
-{
-    i32_of(fields::numbers::number_at(s, at, 4) as u32)
 }
 
 fn u16_at(s: &[u8], at: usize) -> u16
@@ -97,16 +67,16 @@ fn shared_of(s: &[u8]) -> Point
 {
     let flags = fields::numbers::u8_at(s, 14);
     Point {
-        x: i32_at(s, 0),
-        y: i32_at(s, 4),
-        z: i32_at(s, 8),
+        x: signed::i32_at(s, 0),
+        y: signed::i32_at(s, 4),
+        z: signed::i32_at(s, 8),
         intensity: u16_at(s, 12),
         return_number: flags % 8,
         returns: flags / 8 % 8,
         scan_direction: flags / 64 % 2 == 1,
         edge: flags / 128 % 2 == 1,
         class_byte: fields::numbers::u8_at(s, 15),
-        scan_angle: i8_of(fields::numbers::u8_at(s, 16)),
+        scan_angle: signed::i8_at(s, 16),
         user_data: fields::numbers::u8_at(s, 17),
         source_id: u16_at(s, 18),
         gps_time: 0,

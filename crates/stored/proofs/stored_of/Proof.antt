@@ -5,30 +5,20 @@ use mir.Val.{toZ, ofZ}
 use mir.ValLaws.{toZ-ofZ}
 use Rattle.publicpart.specs.Bounds.{stored}
 use Rattle.stored.specs.Stored.{storedOf}
-use borrow.Author.Needs.{needs}
 use Rattle.stored.proofs.stored_of.Statement.{statement}
 use Rattle.stored.proofs.stored_of.Tie as tie
-
-stored-at-requires : tie.Need-stored-at-requires
-stored-at-requires c κs = search needs
-
-stored-at-requires-2 : tie.Need-stored-at-requires-2
-stored-at-requires-2 c κs = search needs
-
-stored-at-requires-3 : tie.Need-stored-at-requires-3
-stored-at-requires-3 c κs = search needs
 
 returns : tie.Need-returns
 unfolding storedOf stored
 returns c =
     let p = c .before .before .before .before .args .point .now in
-    let a = c .before .before .stored-at in
-    let b = c .before .stored-at2 in
-    let d = c .stored-at3 in
+    let a = c .before .before .i32-at in
+    let b = c .before .i32-at2 in
+    let d = c .i32-at3 in
     let x : toZ w32 (ofZ w32 (a .result)) ≡ storedOf p .x = toZ-ofZ w32 (a .result) (record { sfits = a .ok }) ∙ a .ensures in
     let y : toZ w32 (ofZ w32 (b .result)) ≡ storedOf p .y = toZ-ofZ w32 (b .result) (record { sfits = b .ok }) ∙ b .ensures in
     let z : toZ w32 (ofZ w32 (d .result)) ≡ storedOf p .z = toZ-ofZ w32 (d .result) (record { sfits = d .ok }) ∙ d .ensures in
     λ i. record { x = x i; y = y i; z = z i }
 
 pub stored-of-spec : {M : Type 1} → statement M
-stored-of-spec = tie.close (tie.spec stored-at-requires stored-at-requires-2 stored-at-requires-3 returns)
+stored-of-spec = tie.close (tie.spec (λ c κs. tt) (λ c κs. tt) (λ c κs. tt) returns)

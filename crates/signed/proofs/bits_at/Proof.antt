@@ -1,4 +1,4 @@
--- `stored::bits_at` meets its contract. Assumes nothing.
+-- `signed::bits_at` meets its contract. Assumes nothing.
 use mathlib.Core.Path.{_≡_, sym, ap, _∙_}
 use Prim.Native.Nat.{ℕ, suc, _+_, _*_, _≤_}
 use native.Mathlib.Omega.{arith}
@@ -9,11 +9,8 @@ use borrow.Author.Tests.{leb-true}
 use Rattle.fields.specs.Bytes.{Bytes, num, part}
 use Rattle.fields.proofs.ByteLaws.{num-part-suc, num-part-zero}
 use borrow.Author.Needs.{needs}
-use Rattle.stored.proofs.bits_at.Statement.{statement}
-use Rattle.stored.proofs.bits_at.Tie as tie
-
-fits-in-requires : tie.Need-fits-in-requires
-fits-in-requires c κs = search needs
+use Rattle.signed.proofs.bits_at.Statement.{statement}
+use Rattle.signed.proofs.bits_at.Tie as tie
 
 -- all four bytes are there
 there : (s : Bytes) (at : ℕ) (b : Bool) → b ≡ leb (at + 4) (length s) → b ≡ true → at + 4 ≤ length s
@@ -33,9 +30,6 @@ mul-result c = omega (arith, c .pair-at2 .ensures)
 
 add-result : tie.Need-add-result
 add-result c = omega (arith, c .before .pair-at .ensures, c .pair-at2 .ensures)
-
-number-at-requires : tie.Need-number-at-requires
-number-at-requires c κs = search needs
 
 cast-result : tie.Need-cast-result
 cast-result c = search needs
@@ -64,13 +58,13 @@ pub bits-at-spec : {M : Type 1} → statement M
 bits-at-spec =
     tie.close
     (tie.spec
-    fits-in-requires
+    (λ c κs. tt)
     pair-at-requires
     add-pair-at
     pair-at-requires-2
     mul-result
     add-result
-    number-at-requires
+    (λ c κs. tt)
     cast-result
     returns
     returns-2)

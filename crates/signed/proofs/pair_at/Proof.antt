@@ -1,4 +1,4 @@
--- `stored::pair_at` meets its contract. Assumes nothing.
+-- `signed::pair_at` meets its contract. Assumes nothing.
 use mathlib.Core.Path.{_≡_, ap}
 use Prim.Native.Nat.{ℕ, suc, _+_, _*_}
 use native.Mathlib.Omega.{arith}
@@ -6,23 +6,17 @@ use lib.ListN.{getD}
 use Rattle.fields.specs.Bytes.{Bytes, num, part}
 use Rattle.fields.proofs.ByteLaws.{num-part-suc, num-part-zero}
 use borrow.Author.Needs.{needs}
-use Rattle.stored.proofs.pair_at.Statement.{statement}
-use Rattle.stored.proofs.pair_at.Tie as tie
+use Rattle.signed.proofs.pair_at.Statement.{statement}
+use Rattle.signed.proofs.pair_at.Tie as tie
 
 shared-slice-read-wide : tie.Need-shared-slice-read-wide
 shared-slice-read-wide c = search needs
-
-wide-requires : tie.Need-wide-requires
-wide-requires c κs = search needs
 
 add-wide : tie.Need-add-wide
 add-wide c = search needs
 
 shared-slice-read-wide-2 : tie.Need-shared-slice-read-wide-2
 shared-slice-read-wide-2 c = search needs
-
-wide-requires-2 : tie.Need-wide-requires-2
-wide-requires-2 c κs = search needs
 
 mul-result : tie.Need-mul-result
 mul-result c = search needs
@@ -40,4 +34,4 @@ returns : tie.Need-returns
 returns c = (two _ _ _ _ (c .before .before .wide .ensures .0) (c .wide2 .ensures .0), omega arith)
 
 pub pair-at-spec : {M : Type 1} → statement M
-pair-at-spec = tie.close (tie.spec shared-slice-read-wide wide-requires add-wide shared-slice-read-wide-2 wide-requires-2 mul-result add-result returns)
+pair-at-spec = tie.close (tie.spec shared-slice-read-wide (λ c κs. tt) add-wide shared-slice-read-wide-2 (λ c κs. tt) mul-result add-result returns)
