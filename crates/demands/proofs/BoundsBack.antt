@@ -1,6 +1,6 @@
 -- A file that has the bounds of some points in its header bounds them, by the order of coordinates that crate `coordinates` proves.
 -- Assumes nothing.
-use mathlib.Core.Path.{_≡_, refl, sym, ap, _∙_, subst}
+use mathlib.Core.Path.{_≡_, sym, ap, _∙_, subst}
 use Prim.Native.Nat.{ℕ, suc, _+_, _*_, _^_, _≤_, _<_}
 use native.Mathlib.Nat.{mul-le-mul-right, le-of-suc-le-suc}
 use native.Mathlib.Omega.{arith}
@@ -17,12 +17,12 @@ use Rattle.fields.specs.Bytes.{Bytes, part, num}
 use Rattle.fields.proofs.ByteLaws.{num-bytesOf, part-part}
 use Rattle.scaling.specs.declared.Scaling.{Scaling}
 use Rattle.doubles.specs.Coordinate.{coordinateOf, coordinateBits}
-use Rattle.scaling.specs.Scaling.{doubleAt, scalingOf, goodScaling, boundsOf}
+use Rattle.scaling.specs.Scaling.{doubleAt, scalingOf, goodScaling}
 use Rattle.coordinates.specs.Axes.{Axis, X, Y, Z, scaleOf, offsetOf}
 use Rattle.coordinates.specs.Statements.{Stored, FiniteInOrder}
 use Rattle.coordinates.proofs.CoordinateTheorems.{passing}
-use Rattle.publicpart.specs.Bounds.{numbersBytes, stored, largest, smallest, extremesOf, boundNumbers, bounds}
-use Rattle.publicpart.proofs.BoundLaws.{numbers-at, length-bounds}
+use Rattle.publicpart.specs.Bounds.{numbersBytes, stored, largest, smallest, bounds}
+use Rattle.publicpart.proofs.BoundLaws.{numbers-at, length-bounds, bounds-some}
 use Rattle.publicpart.proofs.ExtremeLaws.{Extreme, AtMost, AtLeast, largest-is, smallest-is, stored-small}
 use Rattle.demands.specs.BoundsOfKept.{axisNumber, maxOf, minOf, coordinateAt, OfPoint, Bounded}
 
@@ -59,17 +59,17 @@ axis-small Z = lit≤ tt
 module _ (c : Scaling) (q : Bytes) (qs : List Bytes) where
   max-bits : (axis : Axis) → getD (bounds c (q ∷ qs)) (2 * axisNumber axis) 0
       ≡ coordinateBits (largest (stored (axisNumber axis) q) (map (stored (axisNumber axis)) qs)) (scaleOf axis c) (offsetOf axis c)
-  unfolding bounds boundNumbers boundsOf extremesOf axisNumber scaleOf offsetOf
-  max-bits X = refl
-  max-bits Y = refl
-  max-bits Z = refl
+  unfolding axisNumber scaleOf offsetOf
+  max-bits X = ap (λ (l : List ℕ). getD l 0 0) (bounds-some c q qs)
+  max-bits Y = ap (λ (l : List ℕ). getD l 2 0) (bounds-some c q qs)
+  max-bits Z = ap (λ (l : List ℕ). getD l 4 0) (bounds-some c q qs)
 
   min-bits : (axis : Axis) → getD (bounds c (q ∷ qs)) (1 + 2 * axisNumber axis) 0
       ≡ coordinateBits (smallest (stored (axisNumber axis) q) (map (stored (axisNumber axis)) qs)) (scaleOf axis c) (offsetOf axis c)
-  unfolding bounds boundNumbers boundsOf extremesOf axisNumber scaleOf offsetOf
-  min-bits X = refl
-  min-bits Y = refl
-  min-bits Z = refl
+  unfolding axisNumber scaleOf offsetOf
+  min-bits X = ap (λ (l : List ℕ). getD l 1 0) (bounds-some c q qs)
+  min-bits Y = ap (λ (l : List ℕ). getD l 3 0) (bounds-some c q qs)
+  min-bits Z = ap (λ (l : List ℕ). getD l 5 0) (bounds-some c q qs)
 
 -- what holds of each point between the smallest and the largest value
 between : (v : Bytes → ℤ) (lo hi : ℤ) (Q : Bytes → Type 0) → ((p : Bytes) → lo ≤ℤ v p → v p ≤ℤ hi → Q p)

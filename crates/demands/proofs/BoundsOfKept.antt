@@ -1,6 +1,6 @@
 -- The bounds and bins of a released file are those of the kept points.
 -- Assumes nothing.
-use mathlib.Core.Path.{_≡_, refl, ap, _∙_}
+use mathlib.Core.Path.{_≡_, refl, sym, ap, _∙_}
 use Prim.Native.Nat.{ℕ, zero, suc, _+_, _*_, _^_, _≤_, _<_}
 use native.Mathlib.Nat.{not-suc-le-zero}
 use native.Mathlib.Omega.{arith}
@@ -8,15 +8,16 @@ use mathlib.Core.List.{List, [], _∷_}
 use lib.Dec.{eqb, lit≤}
 use lib.ListN.{length, getD}
 use Rattle.fields.specs.Lists.{total}
-use Rattle.fields.specs.Bytes.{Bytes, part, bytesOf, zeros, join}
+use Rattle.fields.specs.Bytes.{Bytes, part, zeros}
 use Rattle.fields.proofs.ListLaws.{length-kept}
 use Rattle.scaling.specs.Scaling.{scalingOf}
 use Rattle.coordinates.specs.Axes.{Axis}
 use Rattle.lasfile.proofs.Passed.{passed}
-use Rattle.publicpart.specs.Bounds.{numbersBytes, upFrom, returnOf, bins, bounds}
-use Rattle.publicpart.specs.Public.{carriedOf, contents, restrict, publicOf}
-use Rattle.publicpart.proofs.BoundLaws.{length-bins}
-use Rattle.publicpart.proofs.BinLaws.{withReturn, bin-at, bins-total}
+use Rattle.publicpart.specs.Bounds.{numbersBytes, returnOf, bins, bounds}
+use Rattle.publicpart.specs.Public.{publicOf}
+use Rattle.publicpart.proofs.BoundLaws.{length-bins, bounds-none}
+use Rattle.publicpart.proofs.BinLaws.{withReturn, bin-at, five-bins}
+use Rattle.publicpart.proofs.PublicLaws.{carried-scaled, public-carried, public-points}
 use Rattle.publicpart.proofs.Back.{bins-back, bounds-back}
 use Rattle.demands.specs.Terms.{Good}
 use Rattle.demands.specs.Complete.{keptPoints}
@@ -28,16 +29,13 @@ use Rattle.demands.proofs.BoundsBack.{numbers-back, bounded-by}
 
 module _ (sheet f : Bytes) (good : Good f) (k : ℕ) where
   bounds-are : part 179 48 (released sheet f k) ≡ numbersBytes 8 (bounds (scalingOf f) (keptPoints sheet f))
-  unfolding publicOf restrict contents carriedOf scalingOf
-  bounds-are = bounds-back (publicOf sheet f) (public-sound sheet f good) k
+  bounds-are = bounds-back (publicOf sheet f) (public-sound sheet f good) k ∙ rw (public-carried sheet f, carried-scaled f, public-points sheet f)
 
   bins-are : part 111 20 (released sheet f k) ≡ numbersBytes 4 (bins 5 (keptPoints sheet f))
-  unfolding publicOf restrict contents carriedOf
-  bins-are = bins-back (publicOf sheet f) (public-sound sheet f good) k
+  bins-are = bins-back (publicOf sheet f) (public-sound sheet f good) k ∙ rw (public-points sheet f)
 
   few : length (keptPoints sheet f) < 256 ^ 4
-  unfolding publicOf restrict contents carriedOf
-  few = public-sound sheet f good .pointCount
+  few = rw (public-points sheet f) at (public-sound sheet f good .pointCount)
 
   bounded-released : (ps : List Bytes) → keptPoints sheet f ≡ ps → 1 ≤ length ps → (axis : Axis) → Bounded f (released sheet f k) ps axis
   bounded-released [] e h axis = absurd (not-suc-le-zero h)
@@ -47,7 +45,7 @@ module _ (sheet f : Bytes) (good : Good f) (k : ℕ) where
 
   no-points-released : (ps : List Bytes) → keptPoints sheet f ≡ ps → length ps ≡ 0 → part 179 48 (released sheet f k) ≡ zeros 48
   no-points-released [] e h =
-      bounds-are ∙ ap (λ (l : List Bytes). numbersBytes 8 (bounds (scalingOf f) l)) e ∙ (unfold numbersBytes bounds bytesOf join in refl)
+      bounds-are ∙ ap (λ (l : List Bytes). numbersBytes 8 (bounds (scalingOf f) l)) e ∙ bounds-none (scalingOf f)
   no-points-released (q ∷ qs) e h = absurd (omega arith)
 
   bin-is : (i : ℕ) → i < 5 → binOf (released sheet f k) (1 + i) ≡ withReturn (keptPoints sheet f) (1 + i)
@@ -61,14 +59,14 @@ module _ (sheet f : Bytes) (good : Good f) (k : ℕ) where
       rw e (numbers-back (released sheet f k) 111 4 i (bins 5 ps) (rw five bins-are) (rw five h) small ∙ bin)
 
   binned-released : Binned (released sheet f k) (keptPoints sheet f)
-  unfolding total upFrom
+  unfolding total
   binned-released =
       record {
         each = each;
         at-most =
             omega (
               arith,
-              bins-total 1 5 (keptPoints sheet f),
+              five-bins (keptPoints sheet f),
               bin-is 0 (lit≤ tt),
               bin-is 1 (lit≤ tt),
               bin-is 2 (lit≤ tt),
@@ -82,8 +80,7 @@ module _ (sheet f : Bytes) (good : Good f) (k : ℕ) where
       each (suc i) l h = let e : suc i ≡ 1 + i = omega arith in rw e (bin-is i (omega arith))
 
 points-are : (sheet f a : Bytes) (n q r : ℕ) → Known sheet f a n q r → length (keptPoints sheet f) ≡ q
-unfolding publicOf restrict contents carriedOf
-points-are sheet f a n q r m = m .answer .1
+points-are sheet f a n q r m = ap length (sym (public-points sheet f)) ∙ m .answer .1
 
 pub bounds-of-kept : BoundsOfKept
 bounds-of-kept =

@@ -12,7 +12,7 @@ use Rattle.publicpart.specs.Release.{Outcome, numbers, release}
 use Rattle.publicpart.specs.declared.Answer.the-variants.{Short}
 use Rattle.demands.specs.Terms.{Good, needed, Accepted, OfOutput}
 use Rattle.demands.specs.Demand3.{tooShort, Demand3}
-use Rattle.publicpart.proofs.AnswerLaws.{release-long, release-short}
+use Rattle.publicpart.proofs.AnswerLaws.{numbers-short, release-long, release-short}
 use Rattle.demands.proofs.ReleaseLaws.{released, released-passes, released-public, Known, accepted-output, accepted-means, of-output}
 
 module _ (sheet : Bytes) (sheetGood : sheetVerdict sheet ≡ Passes) where
@@ -32,10 +32,9 @@ module _ (sheet : Bytes) (sheetGood : sheetVerdict sheet ≡ Passes) where
 
   too-short : (f a : Bytes) → Good f → (n : ℕ) → needed sheet f ≡ n → length a < n
       → (numbers (release sheet f a .0) ≡ tooShort n) × (release sheet f a .1 ≡ a)
-  unfolding numbers
   too-short f a good n e less =
       let r : release sheet f a ≡ (Short (needed sheet f), a) = release-short sheet f a (good .passes) sheetGood (rw e less) in
-      (rw (r, e), rw r)
+      (rw (r, e) (numbers-short n), rw r)
 
   -- the released file as a file again
   again-at : (f a b : Bytes) → Good f → needed sheet f ≤ length a → length b ≡ length a → (k : ℕ) → release sheet (released sheet f k) b ≡ release sheet f a

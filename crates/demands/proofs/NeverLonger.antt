@@ -1,6 +1,6 @@
 -- A released file is never longer than its source, and passes the file checks.
 -- Assumes nothing.
-use mathlib.Core.Path.{_≡_, ap}
+use mathlib.Core.Path.{_≡_, ap, _∙_}
 use Prim.Native.Nat.{_≤_}
 use native.Mathlib.Omega.{arith}
 use lib.ListN.{length}
@@ -9,12 +9,12 @@ use Rattle.fields.specs.declared.Verdict.the-variants.{Passes}
 use Rattle.lasfile.specs.FileChecks.{fileVerdict}
 use Rattle.lasfile.proofs.Passed.{passed}
 use Rattle.publicpart.specs.Public.{publicOf}
-use Rattle.publicpart.specs.Release.{Outcome, numbers, accepted}
+use Rattle.publicpart.specs.Release.{Outcome, Numbers, numbers}
 use Rattle.publicpart.proofs.Back.{length-render}
 use Rattle.publicpart.proofs.LengthLaws.{no-longer}
 use Rattle.demands.specs.Terms.{Good, needed}
 use Rattle.demands.specs.NeverLonger.{NeverLonger}
-use Rattle.publicpart.proofs.AnswerLaws.{release-long}
+use Rattle.publicpart.proofs.AnswerLaws.{numbers-released, release-long}
 use Rattle.demands.proofs.ReleaseLaws.{public-sound, released-passes, Known, accepted-means, of-output}
 
 pub needed-most : (sheet f : Bytes) → Good f → needed sheet f ≤ length f
@@ -34,6 +34,6 @@ never-longer =
           of-output sheet f a n q r (λ file. fileVerdict file ≡ Passes) m (released-passes sheet f (m .good));
       room =
           λ sheet f a sheetGood good h.
-          unfold numbers accepted in
-          ap (λ (o : Outcome). numbers (o .0) .code) (release-long sheet f a (good .passes) sheetGood (omega (arith, needed-most sheet f good)));
+          ap (λ (o : Outcome). numbers (o .0) .code) (release-long sheet f a (good .passes) sheetGood (omega (arith, needed-most sheet f good)))
+          ∙ ap (λ (n : Numbers). n .code) (numbers-released _ _ _);
     }

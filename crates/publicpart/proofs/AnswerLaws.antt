@@ -1,18 +1,32 @@
--- What a release gives, case by case.
+-- What a release gives, case by case, and what an accepted one says.
 -- Assumes nothing.
-use mathlib.Core.Path.{_≡_}
-use Prim.Native.Nat.{ℕ, _≤_, _<_}
+use mathlib.Core.Path.{_≡_, refl}
+use Prim.Native.Nat.{ℕ, _-_, _≤_, _<_}
+use native.Mathlib.Omega.{arith}
+use mathlib.Core.Bool.{Bool, true, false}
+use mathlib.Core.List.{_++_}
 use lib.ListN.{length}
-use borrow.Author.Tests.{lt-ltb, le-ltb}
-use Rattle.fields.specs.Bytes.{Bytes}
+use lib.Dec.{ltb}
+use borrow.Author.Tests.{lt-ltb, le-ltb, ltb-false}
+use Rattle.fields.specs.Bytes.{Bytes, zeros}
 use Rattle.fields.specs.Checks.{then}
+use Rattle.fields.specs.declared.Verdict.{Verdict}
 use Rattle.fields.specs.declared.Verdict.the-variants.{Passes, Fails}
 use Rattle.lasfile.specs.FileChecks.{fileVerdict}
 use Rattle.sheet.specs.Sheet.{sheetVerdict}
 use Rattle.publicpart.specs.Public.{publicOf}
 use Rattle.publicpart.specs.Render.{render}
-use Rattle.publicpart.specs.Release.{refuseOr, shortOr, accepted, roomOr, release}
-use Rattle.publicpart.specs.declared.Answer.the-variants.{Short, Refused}
+use Rattle.publicpart.specs.Release.{Outcome, numbers, refuseOr, shortOr, accepted, roomOr, release}
+use Rattle.publicpart.specs.declared.Answer.the-variants.{Released, Short, Refused}
+
+-- the four numbers
+pub numbers-released : (n points records : ℕ) → numbers (Released n points records) ≡ record { code = 0; fileLength = n; points = points; records = records }
+unfolding numbers
+numbers-released n points records = refl
+
+pub numbers-short : (n : ℕ) → numbers (Short n) ≡ record { code = 30; fileLength = n; points = 0; records = 0 }
+unfolding numbers
+numbers-short n = refl
 
 module _ (sheet s out : Bytes) where
   pub refused-by-file : (n : ℕ) → fileVerdict s ≡ Fails n → release sheet s out ≡ (Refused n, out)
@@ -29,6 +43,37 @@ module _ (sheet s out : Bytes) where
       unfolding release refuseOr then roomOr shortOr
       release-short h = rw (fileGood, sheetGood, lt-ltb (length out) (length (render (publicOf sheet s))) h)
 
-      pub release-long : length (render (publicOf sheet s)) ≤ length out → release sheet s out ≡ accepted (publicOf sheet s) (length out)
-      unfolding release refuseOr then roomOr shortOr
+      pub release-long : length (render (publicOf sheet s)) ≤ length out → release sheet s out ≡ (
+        Released (length (render (publicOf sheet s))) (length (publicOf sheet s .points)) (length (publicOf sheet s .records)),
+        render (publicOf sheet s) ++ zeros (length out - length (render (publicOf sheet s))),
+      )
+      unfolding release refuseOr then roomOr shortOr accepted
       release-long h = rw (fileGood, sheetGood, le-ltb (length out) (length (render (publicOf sheet s))) h)
+
+-- ---- an accepted release
+
+steps : (x y : Verdict) (short? : Bool) (m : ℕ) (out : Bytes) (o : Outcome) (n q r : ℕ)
+    → refuseOr (then x y) out (shortOr short? m out o) .0 ≡ Released n q r
+    → (x ≡ Passes) × (y ≡ Passes) × (short? ≡ false) × (o .0 ≡ Released n q r)
+unfolding refuseOr then shortOr
+steps (Fails c) y s m out o n q r e = let z : _≡_ {A = ℕ} 0 1 = cc in absurd (omega arith)
+steps Passes (Fails c) s m out o n q r e = let z : _≡_ {A = ℕ} 0 1 = cc in absurd (omega arith)
+steps Passes Passes true m out o n q r e = let z : _≡_ {A = ℕ} 0 1 = cc in absurd (omega arith)
+steps Passes Passes false m out o n q r e = (refl, refl, refl, e)
+
+fields-of : (a b c n q r : ℕ) → Released a b c ≡ Released n q r → (a ≡ n) × (b ≡ q) × (c ≡ r)
+fields-of a b c n q r e = (cc, cc, cc)
+
+-- what it says of its file, sheet and output: none of the refusals applies, and the numbers are the public part's
+pub record Taken (sheet s out : Bytes) (n points records : ℕ) : Type 0 where
+  pub file-passes : fileVerdict s ≡ Passes
+  pub sheet-passes : sheetVerdict sheet ≡ Passes
+  pub room : length (render (publicOf sheet s)) ≤ length out
+  pub answer : (length (render (publicOf sheet s)) ≡ n) × (length (publicOf sheet s .points) ≡ points) × (length (publicOf sheet s .records) ≡ records)
+
+pub release-taken : (sheet s out : Bytes) (n points records : ℕ) → release sheet s out .0 ≡ Released n points records → Taken sheet s out n points records
+unfolding release roomOr accepted
+release-taken sheet s out n points records e =
+    let need : ℕ = length (render (publicOf sheet s)) in
+    let h = steps (fileVerdict s) (sheetVerdict sheet) (ltb (length out) need) need out (accepted (publicOf sheet s) (length out)) n points records e in
+    record { file-passes = h .0; sheet-passes = h .1; room = ltb-false (length out) need (h .2); answer = fields-of _ _ _ n points records (h .3) }

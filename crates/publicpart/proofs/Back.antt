@@ -22,6 +22,7 @@ use Rattle.publicpart.specs.Head.{headWidths, headFields}
 use Rattle.publicpart.specs.Render.{newOffset, headOf, render, totals}
 use Rattle.publicpart.proofs.BoundLaws.{length-bins, length-bounds}
 use Rattle.publicpart.proofs.HeadLaws.{Fitting, length-head, head-field}
+use Rattle.publicpart.proofs.RenderLaws.{new-offset, total-length, render-parts, length-parts}
 use Rattle.publicpart.proofs.Sound.{Sound}
 
 module _ (p : Public) (h : Sound p) where
@@ -38,25 +39,23 @@ module _ (p : Public) (h : Sound p) where
       }
 
   pub length-render : length (render p) ≡ totals p .fileLength
-  unfolding render totals newOffset
   length-render =
-      simp (
-        length-append,
+      omega (
+        arith,
+        length-parts p,
         length-head (headOf p) fitting,
         length-recordsBytes 2 (p .records) (h .records),
         length-join-pieces (p .carried .recordLength) (p .points) (h .points),
-      ) (omega arith)
+        new-offset p,
+        total-length p,
+      )
 
   module _ (k : ℕ) where
     abbrev file : Bytes
     file = render p ++ zeros k
 
-    in-parts : file ≡ join (headFields (headOf p)) ++ (recordsBytes 2 (p .records) ++ (join (p .points) ++ zeros k))
-    unfolding render
-    in-parts = simp append-assoc
-
     field : (i : ℕ) → i < 16 → part (start i headWidths) (getD headWidths i 0) file ≡ getD (headFields (headOf p)) i []
-    field i l = rw in-parts (head-field (headOf p) fitting (recordsBytes 2 (p .records) ++ (join (p .points) ++ zeros k)) i l)
+    field i l = rw (render-parts p (zeros k)) (head-field (headOf p) fitting (recordsBytes 2 (p .records) ++ (join (p .points) ++ zeros k)) i l)
 
     headerSize-back : headerSize file ≡ headerBlock
     unfolding headerSize headFields
@@ -95,35 +94,33 @@ module _ (p : Public) (h : Sound p) where
     bounds-back = field 15 (lit< tt)
 
     length-file : length file ≡ newOffset p + length (p .points) * p .carried .recordLength + k
-    length-file = unfold totals in simp (length-append, length-render, length-replicate)
+    length-file = simp (length-append, length-render, total-length p, length-replicate)
 
     walk-is : walk 2 (recordCount file) (headerSize file) file ≡ p .records
     walk-is =
-        rw (recordCount-back, headerSize-back, in-parts)
+        rw (recordCount-back, headerSize-back, render-parts p (zeros k))
         (walk-back 2 (p .records) (h .records) headerBlock (join (headFields (headOf p))) (join (p .points) ++ zeros k) (length-head (headOf p) fitting))
 
     recordsEnd-is : recordsEnd file ≡ newOffset p
-    unfolding newOffset recordsEnd
+    unfolding recordsEnd
     recordsEnd-is =
-        rw (recordCount-back, headerSize-back, in-parts)
+        rw (new-offset p, recordCount-back, headerSize-back, render-parts p (zeros k))
         (walkEnd-back 2 (p .records) (h .records) headerBlock (join (headFields (headOf p))) (join (p .points) ++ zeros k) (length-head (headOf p) fitting))
 
     offset-is : length (join (headFields (headOf p)) ++ recordsBytes 2 (p .records)) ≡ newOffset p
-    unfolding newOffset
-    offset-is = simp (length-append, length-head (headOf p) fitting, length-recordsBytes 2 (p .records) (h .records))
+    offset-is = simp (new-offset p, length-append, length-head (headOf p) fitting, length-recordsBytes 2 (p .records) (h .records))
 
     points-start : drop (newOffset p) file ≡ join (p .points) ++ zeros k
     points-start =
         let front : Bytes = join (headFields (headOf p)) ++ recordsBytes 2 (p .records) in
-        let e : file ≡ front ++ (join (p .points) ++ zeros k) = in-parts ∙ simp append-assoc in
+        let e : file ≡ front ++ (join (p .points) ++ zeros k) = render-parts p (zeros k) ∙ simp append-assoc in
         rw e (drop-at front (join (p .points) ++ zeros k) (newOffset p) offset-is)
 
     points-are : pieces (pointCount file) (recordLength file) (drop (pointOffset file) file) ≡ p .points
     points-are = rw (pointCount-back, recordLength-back, pointOffset-back, points-start) (pieces-back (p .carried .recordLength) (p .points) (zeros k) (h .points))
 
     above : headerBlock ≤ newOffset p
-    unfolding newOffset
-    above = omega arith
+    above = omega (arith, new-offset p)
 
     pub file-passes : Passed file
     file-passes =

@@ -66,7 +66,7 @@ unfolding total
 total-zero [] = refl
 total-zero (r ∷ rs) = omega (arith, total-zero rs)
 
-pub bins-total : (from n : ℕ) (ps : List Bytes) → total (withReturn ps) (upFrom from n) ≤ length ps
+bins-total : (from n : ℕ) (ps : List Bytes) → total (withReturn ps) (upFrom from n) ≤ length ps
 unfolding kept
 bins-total from n [] = omega (arith, total-zero (upFrom from n))
 bins-total from n (p ∷ ps) =
@@ -77,3 +77,7 @@ bins-total from n (p ∷ ps) =
       in-one (returnOf p) from n,
       bins-total from n ps,
     )
+
+pub five-bins : (ps : List Bytes) → total (withReturn ps) (1 ∷ 2 ∷ 3 ∷ 4 ∷ 5 ∷ []) ≤ length ps
+unfolding upFrom
+five-bins ps = bins-total 1 5 ps

@@ -6,10 +6,12 @@ use native.Mathlib.Nat.{not-suc-le-zero}
 use native.Mathlib.Omega.{arith}
 use mathlib.Core.List.{List, [], _∷_, map}
 use lib.ListN.{length, getD, length-append, length-map}
-use Rattle.fields.specs.Bytes.{Bytes, part, join, bytesOf}
+use Rattle.fields.specs.Bytes.{Bytes, part, join, bytesOf, zeros}
 use Rattle.fields.proofs.ByteLaws.{length-bytesOf, part-front, part-behind}
+use Rattle.doubles.specs.Coordinate.{coordinateBits}
+use Rattle.scaling.specs.Scaling.{boundsOf}
 use Rattle.scaling.specs.declared.Scaling.{Scaling}
-use Rattle.publicpart.specs.Bounds.{numbersBytes, upFrom, bins, boundNumbers, bounds}
+use Rattle.publicpart.specs.Bounds.{numbersBytes, upFrom, bins, stored, largest, smallest, extremesOf, boundNumbers, bounds}
 
 pub length-numbers : (w : ℕ) (ns : List ℕ) → length (numbersBytes w ns) ≡ length ns * w
 unfolding numbersBytes join
@@ -40,3 +42,19 @@ pub length-bounds : (c : Scaling) (ps : List Bytes) → length (bounds c ps) ≡
 unfolding bounds boundNumbers
 length-bounds c [] = refl
 length-bounds c (p ∷ ps) = refl
+
+-- the six bounds of a first point and more, in the header's order
+pub bounds-some : (c : Scaling) (p : Bytes) (ps : List Bytes) → bounds c (p ∷ ps) ≡
+    coordinateBits (largest (stored 0 p) (map (stored 0) ps)) (c .«x_scale») (c .«x_offset»)
+    ∷ coordinateBits (smallest (stored 0 p) (map (stored 0) ps)) (c .«x_scale») (c .«x_offset»)
+    ∷ coordinateBits (largest (stored 1 p) (map (stored 1) ps)) (c .«y_scale») (c .«y_offset»)
+    ∷ coordinateBits (smallest (stored 1 p) (map (stored 1) ps)) (c .«y_scale») (c .«y_offset»)
+    ∷ coordinateBits (largest (stored 2 p) (map (stored 2) ps)) (c .«z_scale») (c .«z_offset»)
+    ∷ coordinateBits (smallest (stored 2 p) (map (stored 2) ps)) (c .«z_scale») (c .«z_offset»)
+    ∷ []
+unfolding bounds boundNumbers boundsOf extremesOf
+bounds-some c p ps = refl
+
+pub bounds-none : (c : Scaling) → numbersBytes 8 (bounds c []) ≡ zeros 48
+unfolding bounds numbersBytes join bytesOf
+bounds-none c = refl

@@ -15,6 +15,7 @@ use Rattle.lasfile.proofs.Passed.{Passed}
 use Rattle.keeping.specs.Keeping.{keepsPoint}
 use Rattle.publicpart.specs.Public.{Public, carriedOf, contents, restrict, publicOf, keptRecord}
 use Rattle.publicpart.specs.Render.{newOffset, totals}
+use Rattle.publicpart.proofs.PublicLaws.{public-is}
 
 restrict-shorter : (sheet : Bytes) (p : Public) → totals (restrict sheet p) .fileLength ≤ totals p .fileLength
 unfolding totals restrict newOffset
@@ -36,5 +37,4 @@ module _ (s : Bytes) (bytes : AllBytes s) (p : Passed s) where
       (omega (arith, walk-total 2 s bytes (recordCount s) (headerSize s) inside, p .walked, p .headerLow, p .pointed))
 
   pub no-longer : (sheet : Bytes) → totals (publicOf sheet s) .fileLength ≤ length s
-  unfolding publicOf
-  no-longer sheet = omega (arith, restrict-shorter sheet (contents s), contents-fit)
+  no-longer sheet = rw (public-is sheet s) (omega (arith, restrict-shorter sheet (contents s), contents-fit))

@@ -1,7 +1,9 @@
+pub mod PublicLaws
 pub mod BoundLaws
 pub mod BinLaws
 pub mod ExtremeLaws
 pub mod HeadLaws
+pub mod RenderLaws
 pub mod Sound
 pub mod Back
 pub mod LengthLaws

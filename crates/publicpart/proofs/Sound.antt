@@ -7,7 +7,7 @@ use lib.ListN.{length, drop, length-drop}
 use lib.Dec.{T}
 use Rattle.fields.specs.Lists.{All}
 use Rattle.fields.specs.Bytes.{Bytes, AllBytes}
-use Rattle.fields.proofs.ListLaws.{All-kept, total-kept, length-kept, kept-kept, kept-comm}
+use Rattle.fields.proofs.ListLaws.{All-kept, total-kept, length-kept}
 use Rattle.fields.proofs.ByteLaws.{num-part-lt, length-part, length-pieces, pieces-width}
 use Rattle.fields.proofs.TextLaws.{Held, held}
 use Rattle.formats.specs.Formats.{formatSize}
@@ -18,8 +18,9 @@ use Rattle.headerfields.specs.HeaderFields.{headerSize, pointOffset, recordCoun
 use Rattle.lasfile.specs.FileChecks.{recordsEnd}
 use Rattle.lasfile.proofs.Passed.{Passed}
 use Rattle.keeping.specs.Keeping.{keepsPoint}
-use Rattle.publicpart.specs.Public.{Carried, Public, carriedOf, contents, restrict, keptRecord}
+use Rattle.publicpart.specs.Public.{Carried, Public, carriedOf, contents, restrict, publicOf, keptRecord}
 use Rattle.publicpart.specs.Render.{newOffset}
+use Rattle.publicpart.proofs.PublicLaws.{public-is}
 
 pub record SoundCarried (c : Carried) : Type 0 where
   pub ids : length (c .ids) ≡ 20
@@ -85,13 +86,6 @@ sound-restrict sheet p h =
       pointCount = omega (arith, length-kept (keepsPoint sheet (p .carried .format)) (p .points), h .pointCount);
     }
 
--- what a sheet leaves stays under that sheet
-pub restrict-restrict : (sheet : Bytes) (p : Public) → restrict sheet (restrict sheet p) ≡ restrict sheet p
-unfolding restrict
-restrict-restrict sheet p = simp kept-kept
-
--- two sheets in either order
-pub restrict-comm : (s t : Bytes) (p : Public) → restrict s (restrict t p) ≡ restrict t (restrict s p)
-unfolding restrict
-restrict-comm s t p =
-    rw (kept-comm (keptRecord s) (keptRecord t) (p .records), kept-comm (keepsPoint s (p .carried .format)) (keepsPoint t (p .carried .format)) (p .points))
+-- the public part of a file that passes
+pub sound-public : (sheet s : Bytes) → AllBytes s → Passed s → Sound (publicOf sheet s)
+sound-public sheet s bytes p = rw (public-is sheet s) (sound-restrict sheet (contents s) (sound s bytes p))
