@@ -21,8 +21,10 @@ use Rattle.scaling.specs.Scaling.{doubleAt, scalingOf, goodScaling}
 use Rattle.coordinates.specs.Axes.{Axis, X, Y, Z, scaleOf, offsetOf}
 use Rattle.coordinates.specs.Statements.{Stored, FiniteInOrder}
 use Rattle.coordinates.proofs.CoordinateTheorems.{passing}
-use Rattle.publicpart.specs.Bounds.{numbersBytes, stored, largest, smallest, bounds}
-use Rattle.publicpart.proofs.BoundLaws.{numbers-at, length-bounds, bounds-some}
+use Rattle.numberruns.specs.NumberRuns.{numbersBytes}
+use Rattle.numberruns.proofs.NumberLaws.{numbers-at}
+use Rattle.publicpart.specs.Bounds.{stored, largest, smallest, bounds}
+use Rattle.publicpart.proofs.BoundLaws.{length-bounds, bounds-some}
 use Rattle.publicpart.proofs.ExtremeLaws.{Extreme, AtMost, AtLeast, largest-is, smallest-is, stored-small}
 use Rattle.demands.specs.BoundsOfKept.{axisNumber, maxOf, minOf, coordinateAt, OfPoint, Bounded}
 

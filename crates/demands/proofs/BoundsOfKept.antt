@@ -13,7 +13,8 @@ use Rattle.fields.proofs.ListLaws.{length-kept}
 use Rattle.scaling.specs.Scaling.{scalingOf}
 use Rattle.coordinates.specs.Axes.{Axis}
 use Rattle.lasfile.proofs.Passed.{passed}
-use Rattle.publicpart.specs.Bounds.{numbersBytes, returnOf, bins, bounds}
+use Rattle.numberruns.specs.NumberRuns.{numbersBytes}
+use Rattle.publicpart.specs.Bounds.{returnOf, bins, bounds}
 use Rattle.publicpart.specs.Public.{publicOf}
 use Rattle.publicpart.proofs.BoundLaws.{length-bins, bounds-none}
 use Rattle.publicpart.proofs.BinLaws.{withReturn, bin-at, five-bins}

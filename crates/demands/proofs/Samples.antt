@@ -22,9 +22,9 @@ use Rattle.headerfields.specs.HeaderFields.{headerSize, pointOffset, recordCoun
 use Rattle.lasfile.specs.FileChecks.{recordsEnd, fileVerdict}
 use Rattle.sheet.specs.Sheet.{kind, lineLength, lowest, highest, userID, recordID, firstLine, afterLine, linesFrom, lines, inOrder, lineChecks, linesVerdict, sheetVerdict}
 use Rattle.keeping.specs.Keeping.{containsClass, namesRecord, keepsClass, keepsPoint, keepsRecord}
-use Rattle.publicpart.specs.Bounds.{numbersBytes, upFrom, returnOf, bins, stored, largest, smallest, extremesOf, boundNumbers, bounds}
+use Rattle.numberruns.specs.NumberRuns.{numbersBytes}
+use Rattle.publicpart.specs.Bounds.{upFrom, returnOf, bins, stored, largest, smallest, extremesOf, boundNumbers, bounds}
 use Rattle.publicpart.specs.Public.{carriedOf, contents, restrict, publicOf}
-use Rattle.publicpart.specs.Head.{headFields}
 use Rattle.publicpart.specs.Render.{newOffset, headOf, render}
 use Rattle.publicpart.specs.Release.{numbers, refuseOr, shortOr, accepted, roomOr, release}
 use Rattle.demands.specs.Terms.{Good}
@@ -33,7 +33,7 @@ use Rattle.demands.specs.Samples.{sheet3, file9, fieldsOf, fourNumbers, 
 
 -- where this is unfolded, every definition of the release is
 computed : Unit {0}
-unfolding kept consIf some total part num bytesOf same join pieces cut padded fails failIf firstFailing then numberOf formatSize timePlace colourPlace classOf bits numberAt pointOf shape decodeChecks fieldsIf decoded payloadLength recordOf sizeOf places walk walkEnd recordBytes recordLen recordsBytes doubleAt scalingIn scalingOf within goodScale goodOffset goodScaling coordinateOf coordinateBits boundsOf headerSize pointOffset recordCount format recordLength pointCount recordsEnd fileVerdict kind lineLength lowest highest userID recordID firstLine afterLine linesFrom lines inOrder lineChecks linesVerdict sheetVerdict containsClass namesRecord keepsClass keepsPoint keepsRecord numbersBytes upFrom returnOf bins stored largest smallest extremesOf boundNumbers bounds carriedOf contents restrict publicOf headFields newOffset headOf render numbers refuseOr shortOr accepted roomOr release toBits ofBits add mul ofInt le
+unfolding kept consIf some total part num bytesOf same join pieces cut padded fails failIf firstFailing then numberOf formatSize timePlace colourPlace classOf bits numberAt pointOf shape decodeChecks fieldsIf decoded payloadLength recordOf sizeOf places walk walkEnd recordBytes recordLen recordsBytes doubleAt scalingIn scalingOf within goodScale goodOffset goodScaling coordinateOf coordinateBits boundsOf headerSize pointOffset recordCount format recordLength pointCount recordsEnd fileVerdict kind lineLength lowest highest userID recordID firstLine afterLine linesFrom lines inOrder lineChecks linesVerdict sheetVerdict containsClass namesRecord keepsClass keepsPoint keepsRecord numbersBytes upFrom returnOf bins stored largest smallest extremesOf boundNumbers bounds carriedOf contents restrict publicOf newOffset headOf render numbers refuseOr shortOr accepted roomOr release toBits ofBits add mul ofInt le
 computed = tt
 
 pub samples-hold : SamplesHold

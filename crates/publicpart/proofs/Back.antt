@@ -13,10 +13,11 @@ use Rattle.fields.proofs.ByteLaws.{num-bytesOf, pieces-back, length-join-pieces
 use Rattle.records.specs.Records.{walk, recordsBytes}
 use Rattle.records.proofs.RecordLaws.{walk-back, walkEnd-back, length-recordsBytes}
 use Rattle.scaling.specs.Scaling.{scalingIn, scalingOf}
+use Rattle.numberruns.specs.NumberRuns.{numbersBytes}
 use Rattle.headerfields.specs.HeaderFields.{headerBlock, headerSize, pointOffset, recordCount, format, recordLength, pointCount}
 use Rattle.lasfile.specs.FileChecks.{recordsEnd}
 use Rattle.lasfile.proofs.Passed.{Passed}
-use Rattle.publicpart.specs.Bounds.{numbersBytes, bins, bounds}
+use Rattle.publicpart.specs.Bounds.{bins, bounds}
 use Rattle.publicpart.specs.Public.{Public, carriedOf, contents}
 use Rattle.publicpart.specs.Head.{headWidths, headFields}
 use Rattle.publicpart.specs.Render.{newOffset, headOf, render, totals}
@@ -58,39 +59,39 @@ module _ (p : Public) (h : Sound p) where
     field i l = rw (render-parts p (zeros k)) (head-field (headOf p) fitting (recordsBytes 2 (p .records) ++ (join (p .points) ++ zeros k)) i l)
 
     headerSize-back : headerSize file ≡ headerBlock
-    unfolding headerSize headFields
+    unfolding headerSize
     headerSize-back = rw (field 7 (lit< tt)) (num-bytesOf 2 headerBlock (lit< tt))
 
     pointOffset-back : pointOffset file ≡ newOffset p
-    unfolding pointOffset headFields headOf
+    unfolding pointOffset headOf
     pointOffset-back = rw (field 8 (lit< tt)) (num-bytesOf 4 (newOffset p) (h .offset))
 
     recordCount-back : recordCount file ≡ length (p .records)
-    unfolding recordCount headFields headOf
+    unfolding recordCount headOf
     recordCount-back = rw (field 9 (lit< tt)) (num-bytesOf 4 (length (p .records)) (h .recordCount))
 
     format-back : format file ≡ p .carried .format
-    unfolding format headFields headOf
+    unfolding format headOf
     format-back = rw (field 10 (lit< tt)) (num-bytesOf 1 (p .carried .format) (omega (arith, h .carried .format)))
 
     recordLength-back : recordLength file ≡ p .carried .recordLength
-    unfolding recordLength headFields headOf
+    unfolding recordLength headOf
     recordLength-back = rw (field 11 (lit< tt)) (num-bytesOf 2 (p .carried .recordLength) (h .carried .recordLength))
 
     pointCount-back : pointCount file ≡ length (p .points)
-    unfolding pointCount headFields headOf
+    unfolding pointCount headOf
     pointCount-back = rw (field 12 (lit< tt)) (num-bytesOf 4 (length (p .points)) (h .pointCount))
 
     scaling-back : part 131 48 file ≡ p .carried .scaling
-    unfolding headFields headOf
+    unfolding headOf
     scaling-back = field 14 (lit< tt)
 
     pub bins-back : part 111 20 file ≡ numbersBytes 4 (bins 5 (p .points))
-    unfolding headFields headOf
+    unfolding headOf
     bins-back = field 13 (lit< tt)
 
     pub bounds-back : part 179 48 file ≡ numbersBytes 8 (bounds (scalingIn (p .carried .scaling)) (p .points))
-    unfolding headFields headOf
+    unfolding headOf
     bounds-back = field 15 (lit< tt)
 
     length-file : length file ≡ newOffset p + length (p .points) * p .carried .recordLength + k
@@ -126,8 +127,8 @@ module _ (p : Public) (h : Sound p) where
     file-passes =
         record {
           whole = omega (arith, length-file, above);
-          signed = unfold headFields in field 0 (lit< tt);
-          versioned = unfold headFields in field 2 (lit< tt);
+          signed = field 0 (lit< tt);
+          versioned = field 2 (lit< tt);
           headerLow = omega (arith, headerSize-back);
           headerHigh = omega (arith, headerSize-back, length-file, above);
           formatted = rw format-back (h .carried .format);
@@ -142,11 +143,11 @@ module _ (p : Public) (h : Sound p) where
     carried-back : carriedOf file ≡ p .carried
     unfolding carriedOf
     carried-back =
-        let ids : part 4 20 file ≡ p .carried .ids = unfold headFields headOf in field 1 (lit< tt) in
-        let system : cut (part 26 32 file) ≡ p .carried .system = unfold headFields headOf in rw (field 3 (lit< tt)) (h .carried .system .back) in
-        let software : cut (part 58 32 file) ≡ p .carried .software = unfold headFields headOf in rw (field 4 (lit< tt)) (h .carried .software .back) in
-        let day : num (part 90 2 file) ≡ p .carried .day = unfold headFields headOf in rw (field 5 (lit< tt)) (num-bytesOf 2 (p .carried .day) (h .carried .day)) in
-        let year : num (part 92 2 file) ≡ p .carried .year = unfold headFields headOf in rw (field 6 (lit< tt)) (num-bytesOf 2 (p .carried .year) (h .carried .year)) in
+        let ids : part 4 20 file ≡ p .carried .ids = unfold headOf in field 1 (lit< tt) in
+        let system : cut (part 26 32 file) ≡ p .carried .system = unfold headOf in rw (field 3 (lit< tt)) (h .carried .system .back) in
+        let software : cut (part 58 32 file) ≡ p .carried .software = unfold headOf in rw (field 4 (lit< tt)) (h .carried .software .back) in
+        let day : num (part 90 2 file) ≡ p .carried .day = unfold headOf in rw (field 5 (lit< tt)) (num-bytesOf 2 (p .carried .day) (h .carried .day)) in
+        let year : num (part 92 2 file) ≡ p .carried .year = unfold headOf in rw (field 6 (lit< tt)) (num-bytesOf 2 (p .carried .year) (h .carried .year)) in
         λ i.
         record {
           ids = ids i;

@@ -8,26 +8,11 @@ use mathlib.Core.List.{List, [], _∷_, map}
 use lib.ListN.{length, getD, length-append, length-map}
 use Rattle.fields.specs.Bytes.{Bytes, part, join, bytesOf, zeros}
 use Rattle.fields.proofs.ByteLaws.{length-bytesOf, part-front, part-behind}
+use Rattle.numberruns.specs.NumberRuns.{numbersBytes}
 use Rattle.doubles.specs.Coordinate.{coordinateBits}
 use Rattle.scaling.specs.Scaling.{boundsOf}
 use Rattle.scaling.specs.declared.Scaling.{Scaling}
-use Rattle.publicpart.specs.Bounds.{numbersBytes, upFrom, bins, stored, largest, smallest, extremesOf, boundNumbers, bounds}
-
-pub length-numbers : (w : ℕ) (ns : List ℕ) → length (numbersBytes w ns) ≡ length ns * w
-unfolding numbersBytes join
-length-numbers w [] = omega arith
-length-numbers w (n ∷ ns) = omega (arith, length-append (bytesOf w n) (join (map (bytesOf w) ns)), length-bytesOf w n, length-numbers w ns)
-
--- number i of them, at its place
-pub numbers-at : (w : ℕ) (ns : List ℕ) (i : ℕ) → i < length ns → part (i * w) w (numbersBytes w ns) ≡ bytesOf w (getD ns i 0)
-unfolding numbersBytes join
-numbers-at w [] i h = absurd (not-suc-le-zero h)
-numbers-at w (n ∷ ns) zero h =
-    let e : 0 * w ≡ 0 = omega arith in
-    rw e (part-front w (bytesOf w n) (join (map (bytesOf w) ns)) (length-bytesOf w n))
-numbers-at w (n ∷ ns) (suc i) h =
-    let e : suc i * w ≡ w + i * w = omega arith in
-    rw e (part-behind w (i * w) w (bytesOf w n) (join (map (bytesOf w) ns)) (length-bytesOf w n) ∙ numbers-at w ns i (omega arith))
+use Rattle.publicpart.specs.Bounds.{upFrom, bins, stored, largest, smallest, extremesOf, boundNumbers, bounds}
 
 length-upFrom : (from n : ℕ) → length (upFrom from n) ≡ n
 unfolding upFrom

@@ -8,10 +8,10 @@ use Rattle.fields.specs.Lists.{total}
 use Rattle.fields.specs.Bytes.{Bytes, part, join, start, Fit}
 use Rattle.fields.proofs.ByteLaws.{length-bytesOf, field-back, length-join}
 use Rattle.fields.proofs.TextLaws.{length-padded}
+use Rattle.numberruns.specs.NumberRuns.{numbersBytes}
+use Rattle.numberruns.proofs.NumberLaws.{length-numbers}
 use Rattle.headerfields.specs.HeaderFields.{headerBlock}
-use Rattle.publicpart.specs.Bounds.{numbersBytes}
 use Rattle.publicpart.specs.Head.{Head, headWidths, headFields}
-use Rattle.publicpart.proofs.BoundLaws.{length-numbers}
 
 -- a pair, for long chains of them
 infixr 3 _▸_
@@ -31,9 +31,8 @@ numbers-fit : (w n : ℕ) (ns : List ℕ) → length ns ≡ n → length (number
 numbers-fit w n ns e = length-numbers w ns ∙ ap (λ (m : ℕ). m * w) e
 
 module _ (h : Head) (f : Fitting h) where
-  fit : Fit headWidths (headFields h)
-  unfolding headFields
-  fit =
+  pub head-fits : Fit headWidths (headFields h)
+  head-fits =
       refl
       ▸ f .ids
       ▸ refl
@@ -53,8 +52,8 @@ module _ (h : Head) (f : Fitting h) where
       ▸ tt
 
   pub length-head : length (join (headFields h)) ≡ headerBlock
-  length-head = unfold total in length-join headWidths (headFields h) fit
+  length-head = unfold total in length-join headWidths (headFields h) head-fits
 
   -- field i, whatever follows the header
   pub head-field : (rest : Bytes) (i : ℕ) → i < 16 → part (start i headWidths) (getD headWidths i 0) (join (headFields h) ++ rest) ≡ getD (headFields h) i []
-  head-field rest i l = field-back headWidths (headFields h) rest i fit l
+  head-field rest i l = field-back headWidths (headFields h) rest i head-fits l

@@ -10,16 +10,12 @@ use lib.Signed.{ltZ}
 use mir.Syntax.{w32}
 use mir.Val.{toZ}
 use Rattle.fields.specs.Lists.{kept}
-use Rattle.fields.specs.Bytes.{Bytes, part, num, bytesOf, join}
+use Rattle.fields.specs.Bytes.{Bytes, part, num}
 use Rattle.points.specs.Points.{bits}
 use Rattle.scaling.specs.Scaling.{boundsOf}
 use Rattle.scaling.specs.declared.Scaling.{Scaling}
 use Rattle.scaling.specs.declared.Extremes.{Extremes}
 use Rattle.scaling.specs.declared.Bounds.{Bounds}
-
--- numbers of w bytes each, back to back
-unfoldable pub numbersBytes : ℕ → List ℕ → Bytes
-numbersBytes w ns = join (map (bytesOf w) ns)
 
 -- ---- counts
 

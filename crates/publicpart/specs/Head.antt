@@ -4,8 +4,8 @@ use Prim.Native.Nat.{ℕ}
 use mathlib.Core.List.{List, [], _∷_}
 use Rattle.fields.specs.Bytes.{Bytes, bytesOf}
 use Rattle.fields.specs.Text.{padded}
+use Rattle.numberruns.specs.NumberRuns.{numbersBytes}
 use Rattle.headerfields.specs.HeaderFields.{signature, version, headerBlock}
-use Rattle.publicpart.specs.Bounds.{numbersBytes}
 use Rattle.publicpart.specs.Public.{Carried}
 
 -- the carried fields, point offset, number of records, number of points, points by return, and bounds as their bits
@@ -22,7 +22,7 @@ pub record Head : Type 0 where
 abbrev pub headWidths : List ℕ
 headWidths = 4 ∷ 20 ∷ 2 ∷ 32 ∷ 32 ∷ 2 ∷ 2 ∷ 2 ∷ 4 ∷ 4 ∷ 1 ∷ 2 ∷ 4 ∷ 20 ∷ 48 ∷ 48 ∷ []
 
-unfoldable pub headFields : Head → List Bytes
+abbrev pub headFields : Head → List Bytes
 headFields h =
     signature
     ∷ h .carried .ids
