@@ -5,15 +5,6 @@ use borrow.Author.Needs.{needs}
 use Rattle.answers.proofs.kept_of.Statement.{statement}
 use Rattle.answers.proofs.kept_of.Tie as tie
 
-enum-told : tie.Need-enum-told
-enum-told c = search needs
-
-enum-told-2 : tie.Need-enum-told-2
-enum-told-2 c = search needs
-
-enum-known-kept : tie.Need-enum-known-kept
-enum-known-kept c = search needs
-
 returns : tie.Need-returns
 unfolding keptNumbers
 returns c = rw (c .enum-told .given .1) refl
@@ -27,5 +18,4 @@ unfolding keptNumbers
 returns-3 c = rw (c .before .kept .given .1) refl
 
 pub kept-of-spec : {M : Type 1} → statement M
-kept-of-spec =
-    tie.close (tie.spec enum-told enum-told-2 enum-known-kept returns returns-2 returns-3)
+kept-of-spec = tie.close (tie.spec (λ c. search needs) (λ c. search needs) (λ c. search needs) returns returns-2 returns-3)

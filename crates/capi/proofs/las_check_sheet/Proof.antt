@@ -1,20 +1,13 @@
 -- `capi::las_check_sheet` meets its contract. Assumes nothing.
 use mathlib.Core.Path.{_∙_, ap}
 use Rattle.fields.specs.Checks.{numberOf}
-use borrow.Author.Needs.{needs}
 use Rattle.capi.specs.Interface.{lasCheckSheet}
 use Rattle.capi.proofs.las_check_sheet.Statement.{statement}
 use Rattle.capi.proofs.las_check_sheet.Tie as tie
-
-check-sheet-requires : tie.Need-check-sheet-requires
-check-sheet-requires c κs = search needs
-
-number-of-requires : tie.Need-number-of-requires
-number-of-requires c κs = search needs
 
 returns : tie.Need-returns
 unfolding lasCheckSheet
 returns c = c .number-of .ensures ∙ ap numberOf (c .before .check-sheet .ensures)
 
 pub las-check-sheet-spec : {M : Type 1} → statement M
-las-check-sheet-spec = tie.close (tie.spec check-sheet-requires number-of-requires returns)
+las-check-sheet-spec = tie.close (tie.spec (λ c κs. tt) (λ c κs. tt) returns)

@@ -1,20 +1,13 @@
 -- `capi::las_read_header` meets its contract. Assumes nothing.
 use mathlib.Core.Path.{_∙_, ap}
 use Rattle.headeranswers.specs.HeaderAnswers.{headerNumbers}
-use borrow.Author.Needs.{needs}
 use Rattle.capi.specs.Interface.{lasReadHeader}
 use Rattle.capi.proofs.las_read_header.Statement.{statement}
 use Rattle.capi.proofs.las_read_header.Tie as tie
-
-read-header-requires : tie.Need-read-header-requires
-read-header-requires c κs = search needs
-
-header-of-requires : tie.Need-header-of-requires
-header-of-requires c κs = search needs
 
 returns : tie.Need-returns
 unfolding lasReadHeader
 returns c = c .header-of .ensures ∙ ap headerNumbers (c .before .read-header .ensures)
 
 pub las-read-header-spec : {M : Type 1} → statement M
-las-read-header-spec = tie.close (tie.spec read-header-requires header-of-requires returns)
+las-read-header-spec = tie.close (tie.spec (λ c κs. tt) (λ c κs. tt) returns)

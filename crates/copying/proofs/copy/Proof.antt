@@ -17,28 +17,16 @@ as-far d at s n h e = paste-sets d at s n (omega arith) (omega arith) ∙ sets-l
 returns : tie.Need-returns
 returns c = let a = c .before .before .before .args in sym (sets-out (a .dst .now) (a .at) (a .src .now) (omega arith))
 
-sub-least : tie.Need-sub-least
-sub-least c = search needs
-
-least-requires : tie.Need-least-requires
-least-requires c κs = search needs
-
 copy-bytes-requires : tie.Need-copy-bytes-requires
 copy-bytes-requires c κs = search needs
 
 copy-blocks-requires : tie.Need-copy-blocks-requires
 copy-blocks-requires c κs = search needs
 
-same-length : tie.Need-same-length
-same-length c = search needs
-
 returns-2 : tie.Need-returns-2
 returns-2 c =
     let a = c .before .before .before .before .before .before .before .before .before .args in
     c .before .before .copy-bytes .ensures ∙ as-far (a .dst .now) (a .at) (a .src .now) _ (omega arith) (c .before .before .before .before .before .least .ensures)
-
-same-length-2 : tie.Need-same-length-2
-same-length-2 c = search needs
 
 returns-3 : tie.Need-returns-3
 returns-3 c =
@@ -50,11 +38,11 @@ copy-spec =
     tie.close
     (tie.spec
     returns
-    sub-least
-    least-requires
+    (λ c. search needs)
+    (λ c κs. tt)
     copy-bytes-requires
     copy-blocks-requires
-    same-length
+    (λ c. search needs)
     returns-2
-    same-length-2
+    (λ c. search needs)
     returns-3)

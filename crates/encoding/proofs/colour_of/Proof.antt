@@ -6,18 +6,6 @@ use Rattle.encoding.proofs.RoomLaws.{bytes-three}
 use Rattle.encoding.proofs.colour_of.Statement.{statement}
 use Rattle.encoding.proofs.colour_of.Tie as tie
 
-cast-result : tie.Need-cast-result
-cast-result c = search needs
-
-cast-result-2 : tie.Need-cast-result-2
-cast-result-2 c = search needs
-
-mul-result : tie.Need-mul-result
-mul-result c = search needs
-
-add-result : tie.Need-add-result
-add-result c = search needs
-
 cast-result-3 : tie.Need-cast-result-3
 cast-result-3 c = omega (arith, c .struct-known3 .given .1 .1 .1 .1 .1 .1 .1 .1 .1 .1 .1 .1 .1)
 
@@ -34,14 +22,4 @@ returns c =
     bytes-three _ _ _ (omega (arith, ranges)) (omega (arith, ranges))
 
 pub colour-of-spec : {M : Type 1} → statement M
-colour-of-spec =
-    tie.close
-    (tie.spec
-    cast-result
-    cast-result-2
-    mul-result
-    add-result
-    cast-result-3
-    mul-result-2
-    add-result-2
-    returns)
+colour-of-spec = tie.close (tie.spec (λ c. search needs) (λ c. search needs) (λ c. search needs) (λ c. search needs) cast-result-3 mul-result-2 add-result-2 returns)

@@ -2,29 +2,10 @@
 use mathlib.Core.Path.{_≡_}
 use mir.Syntax.{w32}
 use mir.Val.{toZ, ofZ}
-use borrow.Author.Needs.{needs}
 use Rattle.extremes.specs.Extremes.{largerOf, smallerOf, extremesWith}
 use Rattle.extremes.proofs.ExtremeLaws.{by-bits}
 use Rattle.extremes.proofs.extended.Statement.{statement}
 use Rattle.extremes.proofs.extended.Tie as tie
-
-larger-requires : tie.Need-larger-requires
-larger-requires c κs = search needs
-
-smaller-requires : tie.Need-smaller-requires
-smaller-requires c κs = search needs
-
-larger-requires-2 : tie.Need-larger-requires-2
-larger-requires-2 c κs = search needs
-
-smaller-requires-2 : tie.Need-smaller-requires-2
-smaller-requires-2 c κs = search needs
-
-larger-requires-3 : tie.Need-larger-requires-3
-larger-requires-3 c κs = search needs
-
-smaller-requires-3 : tie.Need-smaller-requires-3
-smaller-requires-3 c κs = search needs
 
 returns : tie.Need-returns
 unfolding extremesWith
@@ -53,13 +34,4 @@ returns c =
     λ i. record { «max_x» = max-x i; «min_x» = min-x i; «max_y» = max-y i; «min_y» = min-y i; «max_z» = max-z i; «min_z» = min-z i }
 
 pub extended-spec : {M : Type 1} → statement M
-extended-spec =
-    tie.close
-    (tie.spec
-    larger-requires
-    smaller-requires
-    larger-requires-2
-    smaller-requires-2
-    larger-requires-3
-    smaller-requires-3
-    returns)
+extended-spec = tie.close (tie.spec (λ c κs. tt) (λ c κs. tt) (λ c κs. tt) (λ c κs. tt) (λ c κs. tt) (λ c κs. tt) returns)

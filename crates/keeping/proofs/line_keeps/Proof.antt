@@ -5,18 +5,6 @@ use Rattle.keeping.specs.Search.{lineKeeps}
 use Rattle.keeping.proofs.line_keeps.Statement.{statement}
 use Rattle.keeping.proofs.line_keeps.Tie as tie
 
-enum-known-sought : tie.Need-enum-known-sought
-enum-known-sought c = search needs
-
-contains-class-requires : tie.Need-contains-class-requires
-contains-class-requires c κs = search needs
-
-enum-known-sought-2 : tie.Need-enum-known-sought-2
-enum-known-sought-2 c = search needs
-
-names-record-requires : tie.Need-names-record-requires
-names-record-requires c κs = search needs
-
 returns : tie.Need-returns
 unfolding lineKeeps
 returns c = c .contains-class .ensures ∙ rw (c .before .before .sought .given .1)
@@ -26,12 +14,4 @@ unfolding lineKeeps
 returns-2 c = c .names-record .ensures ∙ rw (c .before .before .sought2 .given .1)
 
 pub line-keeps-spec : {M : Type 1} → statement M
-line-keeps-spec =
-    tie.close
-    (tie.spec
-    enum-known-sought
-    contains-class-requires
-    enum-known-sought-2
-    names-record-requires
-    returns
-    returns-2)
+line-keeps-spec = tie.close (tie.spec (λ c. search needs) (λ c κs. tt) (λ c. search needs) (λ c κs. tt) returns returns-2)

@@ -4,12 +4,6 @@ use Rattle.kept.specs.Answers.{keptUnder}
 use Rattle.kept.proofs.answer.Statement.{statement}
 use Rattle.kept.proofs.answer.Tie as tie
 
-enum-known-verdict : tie.Need-enum-known-verdict
-enum-known-verdict c = search needs
-
-enum-told : tie.Need-enum-told
-enum-told c = search needs
-
 returns : tie.Need-returns
 unfolding keptUnder
 returns c = rw (c .before .verdict .given .1)
@@ -23,4 +17,4 @@ unfolding keptUnder
 returns-3 c = rw (c .before .enum-told .given .1, c .if1 .left)
 
 pub answer-spec : {M : Type 1} → statement M
-answer-spec = tie.close (tie.spec enum-known-verdict enum-told returns returns-2 returns-3)
+answer-spec = tie.close (tie.spec (λ c. search needs) (λ c. search needs) returns returns-2 returns-3)

@@ -4,18 +4,6 @@ use borrow.Author.Needs.{needs}
 use Rattle.pointanswers.proofs.decoded_of.Statement.{statement}
 use Rattle.pointanswers.proofs.decoded_of.Tie as tie
 
-enum-known-answer : tie.Need-enum-known-answer
-enum-known-answer c = search needs
-
-point-numbers-requires : tie.Need-point-numbers-requires
-point-numbers-requires c κs = search needs
-
-enum-known-answer-2 : tie.Need-enum-known-answer-2
-enum-known-answer-2 c = search needs
-
-no-point-requires : tie.Need-no-point-requires
-no-point-requires c κs = search needs
-
 returns : tie.Need-returns
 unfolding decodedNumbers
 returns c = rw (c .before .before .answer .given .1) (c .point-numbers .ensures)
@@ -25,4 +13,4 @@ unfolding decodedNumbers
 returns-2 c = rw (c .before .before .answer2 .given .1) (c .no-point .ensures)
 
 pub decoded-of-spec : {M : Type 1} → statement M
-decoded-of-spec = tie.close (tie.spec enum-known-answer point-numbers-requires enum-known-answer-2 no-point-requires returns returns-2)
+decoded-of-spec = tie.close (tie.spec (λ c. search needs) (λ c κs. tt) (λ c. search needs) (λ c κs. tt) returns returns-2)

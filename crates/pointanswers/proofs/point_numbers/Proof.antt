@@ -3,15 +3,8 @@ use mathlib.Core.Path.{refl}
 use mir.Syntax.{w8, w32}
 use mir.ValLaws.{toZ-ofZ}
 use Rattle.pointanswers.specs.PointAnswers.{pointFields}
-use borrow.Author.Needs.{needs}
 use Rattle.pointanswers.proofs.point_numbers.Statement.{statement}
 use Rattle.pointanswers.proofs.point_numbers.Tie as tie
-
-cast-t4 : tie.Need-cast-t4
-cast-t4 c = search needs
-
-cast-t5 : tie.Need-cast-t5
-cast-t5 c = search needs
 
 returns : tie.Need-returns
 unfolding pointFields
@@ -27,4 +20,4 @@ returns c =
     refl
 
 pub point-numbers-spec : {M : Type 1} → statement M
-point-numbers-spec = tie.close (tie.spec cast-t4 cast-t5 returns)
+point-numbers-spec = tie.close (tie.spec (λ c. tt) (λ c. tt) returns)

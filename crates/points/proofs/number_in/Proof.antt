@@ -4,24 +4,6 @@ use borrow.Author.Needs.{needs}
 use Rattle.points.proofs.number_in.Statement.{statement}
 use Rattle.points.proofs.number_in.Tie as tie
 
-enum-told : tie.Need-enum-told
-enum-told c = search needs
-
-enum-known-place : tie.Need-enum-known-place
-enum-known-place c = search needs
-
-sub-number-at : tie.Need-sub-number-at
-sub-number-at c = search needs
-
-part-number-at-start : tie.Need-part-number-at-start
-part-number-at-start c = search needs
-
-part-number-at-end : tie.Need-part-number-at-end
-part-number-at-end c = search needs
-
-number-at-requires : tie.Need-number-at-requires
-number-at-requires c κs = search needs
-
 returns : tie.Need-returns
 returns c = let a = c .before .before .before .args in number-none _ (a .place) (a .shift) (a .s .now) (c .enum-told .given .1)
 
@@ -35,12 +17,12 @@ pub number-in-spec : {M : Type 1} → statement M
 number-in-spec =
     tie.close
     (tie.spec
-    enum-told
-    enum-known-place
-    sub-number-at
-    part-number-at-start
-    part-number-at-end
-    number-at-requires
+    (λ c. search needs)
+    (λ c. search needs)
+    (λ c. search needs)
+    (λ c. search needs)
+    (λ c. search needs)
+    (λ c κs. tt)
     returns
     returns-2
     returns-3)

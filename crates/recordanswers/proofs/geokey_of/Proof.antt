@@ -4,30 +4,6 @@ use borrow.Author.Needs.{needs}
 use Rattle.recordanswers.proofs.geokey_of.Statement.{statement}
 use Rattle.recordanswers.proofs.geokey_of.Tie as tie
 
-enum-known-found : tie.Need-enum-known-found
-enum-known-found c = search needs
-
-geokey-requires : tie.Need-geokey-requires
-geokey-requires c κs = search needs
-
-enum-known-found-2 : tie.Need-enum-known-found-2
-enum-known-found-2 c = search needs
-
-geokey-requires-2 : tie.Need-geokey-requires-2
-geokey-requires-2 c κs = search needs
-
-enum-known-found-3 : tie.Need-enum-known-found-3
-enum-known-found-3 c = search needs
-
-geokey-requires-3 : tie.Need-geokey-requires-3
-geokey-requires-3 c κs = search needs
-
-enum-known-found-4 : tie.Need-enum-known-found-4
-enum-known-found-4 c = search needs
-
-geokey-requires-4 : tie.Need-geokey-requires-4
-geokey-requires-4 c κs = search needs
-
 returns : tie.Need-returns
 unfolding geokeyNumbers
 returns c = rw (c .before .before .found .given .1) (c .geokey .ensures)
@@ -48,14 +24,14 @@ pub geokey-of-spec : {M : Type 1} → statement M
 geokey-of-spec =
     tie.close
     (tie.spec
-    enum-known-found
-    geokey-requires
-    enum-known-found-2
-    geokey-requires-2
-    enum-known-found-3
-    geokey-requires-3
-    enum-known-found-4
-    geokey-requires-4
+    (λ c. search needs)
+    (λ c κs. tt)
+    (λ c. search needs)
+    (λ c κs. tt)
+    (λ c. search needs)
+    (λ c κs. tt)
+    (λ c. search needs)
+    (λ c κs. tt)
     returns
     returns-2
     returns-3

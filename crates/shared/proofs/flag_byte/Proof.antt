@@ -19,29 +19,11 @@ unfolding bit
 as-bit true = refl
 as-bit false = refl
 
-cast-result : tie.Need-cast-result
-cast-result c = search needs
-
-cast-result-2 : tie.Need-cast-result-2
-cast-result-2 c = search needs
-
-mul-result : tie.Need-mul-result
-mul-result c = search needs
-
-add-result : tie.Need-add-result
-add-result c = search needs
-
-cast-result-3 : tie.Need-cast-result-3
-cast-result-3 c = search needs
-
 mul-result-2 : tie.Need-mul-result-2
 mul-result-2 c = omega (arith, one-at-most (c .before .before .before .args .point .«scan_direction»))
 
 add-result-2 : tie.Need-add-result-2
 add-result-2 c = omega (arith, one-at-most (c .before .before .before .args .point .«scan_direction»))
-
-cast-result-4 : tie.Need-cast-result-4
-cast-result-4 c = search needs
 
 mul-result-3 : tie.Need-mul-result-3
 mul-result-3 c = omega (arith, one-at-most (c .before .before .before .before .args .point .edge))
@@ -61,14 +43,14 @@ pub flag-byte-spec : {M : Type 1} → statement M
 flag-byte-spec =
     tie.close
     (tie.spec
-    cast-result
-    cast-result-2
-    mul-result
-    add-result
-    cast-result-3
+    (λ c. search needs)
+    (λ c. search needs)
+    (λ c. search needs)
+    (λ c. search needs)
+    (λ c. tt)
     mul-result-2
     add-result-2
-    cast-result-4
+    (λ c. tt)
     mul-result-3
     add-result-3
     returns)

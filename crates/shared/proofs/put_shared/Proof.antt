@@ -18,60 +18,6 @@ cast-bits-of c =
     cast-wider w8 w32 (omega arith) (c .before .before .before .args .point .«scan_angle»)
     (record { sfits = c .struct-told .given .1 .1 .1 .1 .1 .1 .1 .1 .1 .0 .1 })
 
-bits-of-requires : tie.Need-bits-of-requires
-bits-of-requires c κs = search needs
-
-bits-of-requires-2 : tie.Need-bits-of-requires-2
-bits-of-requires-2 c κs = search needs
-
-put-number-requires : tie.Need-put-number-requires
-put-number-requires c κs = search needs
-
-bits-of-requires-3 : tie.Need-bits-of-requires-3
-bits-of-requires-3 c κs = search needs
-
-put-number-requires-2 : tie.Need-put-number-requires-2
-put-number-requires-2 c κs = search needs
-
-bits-of-requires-4 : tie.Need-bits-of-requires-4
-bits-of-requires-4 c κs = search needs
-
-put-number-requires-3 : tie.Need-put-number-requires-3
-put-number-requires-3 c κs = search needs
-
-cast-put-number : tie.Need-cast-put-number
-cast-put-number c = search needs
-
-put-number-requires-4 : tie.Need-put-number-requires-4
-put-number-requires-4 c κs = search needs
-
-flag-byte-requires : tie.Need-flag-byte-requires
-flag-byte-requires c κs = search needs
-
-put-number-requires-5 : tie.Need-put-number-requires-5
-put-number-requires-5 c κs = search needs
-
-cast-put-number-2 : tie.Need-cast-put-number-2
-cast-put-number-2 c = search needs
-
-put-number-requires-6 : tie.Need-put-number-requires-6
-put-number-requires-6 c κs = search needs
-
-put-number-requires-7 : tie.Need-put-number-requires-7
-put-number-requires-7 c κs = search needs
-
-cast-put-number-3 : tie.Need-cast-put-number-3
-cast-put-number-3 c = search needs
-
-put-number-requires-8 : tie.Need-put-number-requires-8
-put-number-requires-8 c κs = search needs
-
-cast-put-number-4 : tie.Need-cast-put-number-4
-cast-put-number-4 c = search needs
-
-put-number-requires-9 : tie.Need-put-number-requires-9
-put-number-requires-9 c κs = search needs
-
 returns : tie.Need-returns
 unfolding sharedFields
 returns c =
@@ -110,23 +56,23 @@ put-shared-spec =
     tie.close
     (tie.spec
     cast-bits-of
-    bits-of-requires
-    bits-of-requires-2
-    put-number-requires
-    bits-of-requires-3
-    put-number-requires-2
-    bits-of-requires-4
-    put-number-requires-3
-    cast-put-number
-    put-number-requires-4
-    flag-byte-requires
-    put-number-requires-5
-    cast-put-number-2
-    put-number-requires-6
-    put-number-requires-7
-    cast-put-number-3
-    put-number-requires-8
-    cast-put-number-4
-    put-number-requires-9
+    (λ c κs. tt)
+    (λ c κs. tt)
+    (λ c κs. tt)
+    (λ c κs. tt)
+    (λ c κs. tt)
+    (λ c κs. tt)
+    (λ c κs. tt)
+    (λ c. search needs)
+    (λ c κs. tt)
+    (λ c κs. tt)
+    (λ c κs. tt)
+    (λ c. search needs)
+    (λ c κs. tt)
+    (λ c κs. tt)
+    (λ c. search needs)
+    (λ c κs. tt)
+    (λ c. search needs)
+    (λ c κs. tt)
     same-length
     returns)

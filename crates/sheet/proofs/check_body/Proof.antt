@@ -1,7 +1,6 @@
 -- `sheet::check_body` meets its contract. After each test that does not fail the verdict is that of the checks behind it. Assumes nothing.
 use mathlib.Core.Path.{_≡_, sym, _∙_}
 use native.Mathlib.Omega.{arith}
-use borrow.Author.Needs.{needs}
 use borrow.Author.Tests.{lt-ltb, le-ltb}
 use lib.ListN.{drop}
 use Rattle.fields.specs.Checks.{firstFailing, failIf, fails}
@@ -19,9 +18,6 @@ whole : (c : tie.Else2) → firstFailing (drop 2 (lineChecks (c .before .before 
 unfolding lineChecks firstFailing failIf fails
 whole c = known (c .before) ∙ rw (← c .before .before .line-length .ensures, le-ltb _ (c .before .before .line-length .result) (c .if2 .left))
 
-line-length-requires : tie.Need-line-length-requires
-line-length-requires c κs = search needs
-
 returns : tie.Need-returns
 unfolding lineChecks firstFailing failIf fails
 returns c = rw (← c .before .line-length .ensures, lt-ltb (c .before .line-length .result) 1 (omega arith))
@@ -29,9 +25,6 @@ returns c = rw (← c .before .line-length .ensures, lt-ltb (c .before .line-len
 returns-2 : tie.Need-returns-2
 unfolding lineChecks firstFailing failIf fails
 returns-2 c = sym (known (c .before) ∙ rw (← c .before .before .line-length .ensures, lt-ltb _ (c .before .before .line-length .result) (c .if2 .taken)))
-
-in-order-requires : tie.Need-in-order-requires
-in-order-requires c κs = search needs
 
 returns-3 : tie.Need-returns-3
 unfolding lineChecks firstFailing failIf fails
@@ -42,12 +35,4 @@ unfolding lineChecks firstFailing failIf fails
 returns-4 c = sym (whole (c .before .before) ∙ rw (← c .before .in-order .ensures, c .if3 .left))
 
 pub check-body-spec : {M : Type 1} → statement M
-check-body-spec =
-    tie.close
-    (tie.spec
-    line-length-requires
-    returns
-    returns-2
-    in-order-requires
-    returns-3
-    returns-4)
+check-body-spec = tie.close (tie.spec (λ c κs. tt) returns returns-2 (λ c κs. tt) returns-3 returns-4)

@@ -7,15 +7,6 @@ use Rattle.signed.proofs.SignedLaws.{high-fits, high-value}
 use Rattle.signed.proofs.i32_of.Statement.{statement}
 use Rattle.signed.proofs.i32_of.Tie as tie
 
-cast-result : tie.Need-cast-result
-cast-result c = search needs
-
-sub-result : tie.Need-sub-result
-sub-result c = search needs
-
-cast-result-2 : tie.Need-cast-result-2
-cast-result-2 c = search needs
-
 sub-result-2 : tie.Need-sub-result-2
 sub-result-2 c = high-fits w32 (c .before .args .u) 4294967295 refl (c .if1 .left) (omega arith)
 
@@ -26,4 +17,4 @@ returns-2 : tie.Need-returns-2
 returns-2 c = high-value w32 (c .before .args .u) 4294967295 refl (c .if1 .left) (omega arith)
 
 pub i32-of-spec : {M : Type 1} → statement M
-i32-of-spec = tie.close (tie.spec cast-result sub-result cast-result-2 sub-result-2 returns returns-2)
+i32-of-spec = tie.close (tie.spec (λ c. search needs) (λ c. search needs) (λ c. search needs) sub-result-2 returns returns-2)

@@ -5,12 +5,6 @@ use borrow.Author.Needs.{needs}
 use Rattle.tally.proofs.add_point.Statement.{statement}
 use Rattle.tally.proofs.add_point.Tie as tie
 
-shared-slice-read-step : tie.Need-shared-slice-read-step
-shared-slice-read-step c = search needs
-
-stored-of-requires : tie.Need-stored-of-requires
-stored-of-requires c κs = search needs
-
 step-requires : tie.Need-step-requires
 step-requires c κs = search needs
 
@@ -20,4 +14,4 @@ returns c =
     tallied-by (a .t) _ _ _ (a .point .now) (c .step .ensures) refl (c .before .stored-of .ensures)
 
 pub add-point-spec : {M : Type 1} → statement M
-add-point-spec = tie.close (tie.spec shared-slice-read-step stored-of-requires step-requires returns)
+add-point-spec = tie.close (tie.spec (λ c. search needs) (λ c κs. tt) step-requires returns)

@@ -2,12 +2,8 @@
 use native.Mathlib.Omega.{arith}
 use lib.Dec.{eqb}
 use Rattle.tally.proofs.CountLaws.{as-bit, bit-le}
-use borrow.Author.Needs.{needs}
 use Rattle.tally.proofs.counted.Statement.{statement}
 use Rattle.tally.proofs.counted.Tie as tie
-
-cast-result : tie.Need-cast-result
-cast-result c = search needs
 
 add-result : tie.Need-add-result
 add-result c = omega (arith, as-bit (eqb (c .args .n) (c .args .bin)), bit-le (eqb (c .args .n) (c .args .bin)))
@@ -16,4 +12,4 @@ returns : tie.Need-returns
 returns c = rw (as-bit (eqb (c .args .n) (c .args .bin)))
 
 pub counted-spec : {M : Type 1} → statement M
-counted-spec = tie.close (tie.spec cast-result add-result returns)
+counted-spec = tie.close (tie.spec (λ c. tt) add-result returns)

@@ -3,12 +3,8 @@ use mathlib.Core.Path.{sym, ap, _∙_}
 use lib.ListN.{length}
 use Rattle.pointruns.proofs.RunLaws.{in-run, points-held, points-none}
 use Rattle.tally.specs.Tally.{tallyOf}
-use borrow.Author.Needs.{needs}
 use Rattle.tally.proofs.tally_points.Statement.{statement}
 use Rattle.tally.proofs.tally_points.Tie as tie
-
-holds-requires : tie.Need-holds-requires
-holds-requires c κs = search needs
 
 tally-run-requires : tie.Need-tally-run-requires
 tally-run-requires c κs =
@@ -22,9 +18,6 @@ returns c =
     let h = in-run (a .count) (a .record-length) (length (a .run .now)) (sym (c .before .before .holds .ensures) ∙ c .before .if1 .taken) in
     c .tally-run .ensures ∙ ap tallyOf (sym (points-held (a .count) (a .record-length) (a .run .now) h))
 
-fresh-requires : tie.Need-fresh-requires
-fresh-requires c κs = search needs
-
 returns-2 : tie.Need-returns-2
 unfolding tallyOf
 returns-2 c =
@@ -33,4 +26,4 @@ returns-2 c =
     c .fresh .ensures ∙ ap tallyOf (sym none)
 
 pub tally-points-spec : {M : Type 1} → statement M
-tally-points-spec = tie.close (tie.spec holds-requires tally-run-requires returns fresh-requires returns-2)
+tally-points-spec = tie.close (tie.spec (λ c κs. tt) tally-run-requires returns (λ c κs. tt) returns-2)

@@ -4,18 +4,12 @@ use borrow.Author.Needs.{needs}
 use Rattle.tally.proofs.with_point.Statement.{statement}
 use Rattle.tally.proofs.with_point.Tie as tie
 
-add-t4 : tie.Need-add-t4
-add-t4 c = search needs
-
 binned-requires : tie.Need-binned-requires
 binned-requires c κs = search needs
-
-extended-requires : tie.Need-extended-requires
-extended-requires c κs = search needs
 
 returns : tie.Need-returns
 unfolding tallyWith
 returns c = rw (c .before .binned .ensures, c .extended .ensures)
 
 pub with-point-spec : {M : Type 1} → statement M
-with-point-spec = tie.close (tie.spec add-t4 binned-requires extended-requires returns)
+with-point-spec = tie.close (tie.spec (λ c. search needs) binned-requires (λ c κs. tt) returns)

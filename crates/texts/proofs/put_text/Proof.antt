@@ -2,7 +2,6 @@
 use mathlib.Core.Path.{_≡_, sym, ap, _∙_}
 use Prim.Native.Nat.{ℕ, _+_, _-_, _≤_}
 use native.Mathlib.Omega.{arith}
-use borrow.Author.Needs.{needs}
 use mathlib.Core.List.{append-nil}
 use denote.Ref.{now}
 use lib.ListN.{length}
@@ -28,23 +27,11 @@ full d at w t h = let e : w - length (cut t) ≡ 0 = omega arith in rw (cut-fron
 returns : tie.Need-returns
 returns c = let a = c .before .before .before .args in sym (sets-out (a .dst .now) (a .at) (padded (a .width) (cut (a .text .now))) (omega arith))
 
-cut-length-requires : tie.Need-cut-length-requires
-cut-length-requires c κs = search needs
-
-part-at-requires : tie.Need-part-at-requires
-part-at-requires c κs = search needs
-
-copy-requires : tie.Need-copy-requires
-copy-requires c κs = search needs
-
 add-zero : tie.Need-add-zero
 add-zero c = omega (arith, length-cut (c .before .before .before .before .before .before .before .before .before .before .before .args .text .now))
 
 sub-zero : tie.Need-sub-zero
 sub-zero c = omega arith
-
-zero-requires : tie.Need-zero-requires
-zero-requires c κs = search needs
 
 same-length : tie.Need-same-length
 same-length c = c .before .before .zero .kept .0 ∙ c .before .before .before .before .before .before .before .copy .kept .1 .0
@@ -66,17 +53,4 @@ returns-3 c =
     ∙ rw (c .before .before .before .before .before .part-at .ensures, c .before .before .before .before .before .before .cut-length .ensures) (full (a .dst .now) (a .at) (a .width) (a .text .now) (omega arith))
 
 pub put-text-spec : {M : Type 1} → statement M
-put-text-spec =
-    tie.close
-    (tie.spec
-    returns
-    cut-length-requires
-    part-at-requires
-    copy-requires
-    add-zero
-    sub-zero
-    zero-requires
-    same-length
-    returns-2
-    same-length-2
-    returns-3)
+put-text-spec = tie.close (tie.spec returns (λ c κs. tt) (λ c κs. tt) (λ c κs. tt) add-zero sub-zero (λ c κs. tt) same-length returns-2 same-length-2 returns-3)

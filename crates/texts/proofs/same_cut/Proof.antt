@@ -3,24 +3,8 @@ use mathlib.Core.Path.{_≡_, _∙_}
 use denote.Ref.{now}
 use Rattle.fields.specs.Text.{cut}
 use Rattle.fields.proofs.TextLaws.{cut-front}
-use borrow.Author.Needs.{needs}
 use Rattle.texts.proofs.same_cut.Statement.{statement}
 use Rattle.texts.proofs.same_cut.Tie as tie
-
-cut-length-requires : tie.Need-cut-length-requires
-cut-length-requires c κs = search needs
-
-part-at-requires : tie.Need-part-at-requires
-part-at-requires c κs = search needs
-
-cut-length-requires-2 : tie.Need-cut-length-requires-2
-cut-length-requires-2 c κs = search needs
-
-part-at-requires-2 : tie.Need-part-at-requires-2
-part-at-requires-2 c κs = search needs
-
-same-bytes-requires : tie.Need-same-bytes-requires
-same-bytes-requires c κs = search needs
 
 returns : tie.Need-returns
 returns c =
@@ -31,12 +15,4 @@ returns c =
     c .same-bytes .ensures ∙ rw (one, two)
 
 pub same-cut-spec : {M : Type 1} → statement M
-same-cut-spec =
-    tie.close
-    (tie.spec
-    cut-length-requires
-    part-at-requires
-    cut-length-requires-2
-    part-at-requires-2
-    same-bytes-requires
-    returns)
+same-cut-spec = tie.close (tie.spec (λ c κs. tt) (λ c κs. tt) (λ c κs. tt) (λ c κs. tt) (λ c κs. tt) returns)

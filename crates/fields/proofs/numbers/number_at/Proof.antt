@@ -3,9 +3,6 @@ use borrow.Author.Needs.{needs}
 use Rattle.fields.proofs.numbers.number_at.Statement.{statement}
 use Rattle.fields.proofs.numbers.number_at.Tie as tie
 
-least-requires : tie.Need-least-requires
-least-requires c κs = search needs
-
 number-within-requires : tie.Need-number-within-requires
 number-within-requires c κs = search needs
 
@@ -13,4 +10,4 @@ returns : tie.Need-returns
 returns c = rw (c .before .least .ensures) at (c .number-within .ensures)
 
 pub number-at-spec : {M : Type 1} → statement M
-number-at-spec = tie.close (tie.spec least-requires number-within-requires returns)
+number-at-spec = tie.close (tie.spec (λ c κs. tt) number-within-requires returns)

@@ -24,17 +24,8 @@ as-far s at w m n h e = rw (← lowest m w n (omega arith)) (sets-least s at m (
 returns : tie.Need-returns
 returns c = let a = c .before .before .args in sym (sets-out (a .s .now) (a .at) (bytesOf (a .width) (a .n)) (omega arith))
 
-sub-room : tie.Need-sub-room
-sub-room c = search needs
-
-least-requires : tie.Need-least-requires
-least-requires c κs = search needs
-
 put-within-requires : tie.Need-put-within-requires
 put-within-requires c κs = search needs
-
-same-length : tie.Need-same-length
-same-length c = search needs
 
 returns-2 : tie.Need-returns-2
 returns-2 c =
@@ -43,5 +34,4 @@ returns-2 c =
     ∙ as-far (a .s .now) (a .at) (a .width) _ (a .n) (omega arith) (c .before .before .before .least .ensures)
 
 pub put-number-spec : {M : Type 1} → statement M
-put-number-spec =
-    tie.close (tie.spec returns sub-room least-requires put-within-requires same-length returns-2)
+put-number-spec = tie.close (tie.spec returns (λ c. search needs) (λ c κs. tt) put-within-requires (λ c. search needs) returns-2)
