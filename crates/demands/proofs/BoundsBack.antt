@@ -1,8 +1,7 @@
 -- A file that has the bounds of some points in its header bounds them, by the order of coordinates that crate `coordinates` proves.
 -- Assumes nothing.
 use mathlib.Core.Path.{_≡_, sym, ap, _∙_, subst}
-use Prim.Native.Nat.{ℕ, suc, _+_, _*_, _^_, _≤_, _<_}
-use native.Mathlib.Nat.{mul-le-mul-right, le-of-suc-le-suc}
+use Prim.Native.Nat.{ℕ, _+_, _*_, _^_, _≤_, _<_}
 use native.Mathlib.Omega.{arith}
 use mathlib.Core.List.{List, [], _∷_, map, List·Memᴰ, Memᴰ·of-map}
 use lib.Dec.{T, lit≤}
@@ -13,8 +12,7 @@ use lib.Ieee.{Float, binary64, le, mul, ofInt, ofBits}
 use lib.Ieee.Fits.{add-fits}
 use lib.Ieee.Bits.{ofBits-toBits, toBits-lt}
 use Rattle.fields.specs.Lists.{All}
-use Rattle.fields.specs.Bytes.{Bytes, part, num}
-use Rattle.fields.proofs.ByteLaws.{num-bytesOf, part-part}
+use Rattle.fields.specs.Bytes.{Bytes, part}
 use Rattle.scaling.specs.declared.Scaling.{Scaling}
 use Rattle.doubles.specs.Coordinate.{coordinateOf, coordinateBits}
 use Rattle.scaling.specs.Scaling.{doubleAt, scalingOf, goodScaling}
@@ -22,23 +20,11 @@ use Rattle.coordinates.specs.Axes.{Axis, X, Y, Z, scaleOf, offsetOf}
 use Rattle.coordinates.specs.Statements.{Stored, FiniteInOrder}
 use Rattle.coordinates.proofs.CoordinateTheorems.{passing}
 use Rattle.numberruns.specs.NumberRuns.{numbersBytes}
-use Rattle.numberruns.proofs.NumberLaws.{numbers-at}
+use Rattle.numberruns.proofs.NumberLaws.{numbers-back}
 use Rattle.publicpart.specs.Bounds.{stored, largest, smallest, bounds}
 use Rattle.publicpart.proofs.BoundLaws.{length-bounds, bounds-some}
 use Rattle.publicpart.proofs.ExtremeLaws.{Extreme, AtMost, AtLeast, largest-is, smallest-is, stored-small}
 use Rattle.demands.specs.BoundsOfKept.{axisNumber, maxOf, minOf, coordinateAt, OfPoint, Bounded}
-
--- ---- numbers of a header read back
-
--- number i of those of w bytes each that a file has at a place
-pub numbers-back : (s : Bytes) (at w i : ℕ) (ns : List ℕ) → part at (length ns * w) s ≡ numbersBytes w ns → i < length ns → getD ns i 0 < 256 ^ w
-    → num (part (at + i * w) w s) ≡ getD ns i 0
-numbers-back s at w i ns e h small =
-    ap num (sym (part-part at (length ns * w) (i * w) w s (fits w i (length ns) h)) ∙ ap (part (i * w) w) e ∙ numbers-at w ns i h)
-    ∙ num-bytesOf w (getD ns i 0) small
-  where
-    fits : (w i n : ℕ) → i < n → i * w + w ≤ n * w
-    fits w i (suc n) h = omega (arith, mul-le-mul-right w (le-of-suc-le-suc h))
 
 -- a coordinate's bits have 64 places, and are the coordinate again
 module _ (z : ℤ) (scale offset : Float) where

@@ -14,6 +14,7 @@ use Rattle.scaling.specs.Scaling.{scalingOf}
 use Rattle.coordinates.specs.Axes.{Axis}
 use Rattle.lasfile.proofs.Passed.{passed}
 use Rattle.numberruns.specs.NumberRuns.{numbersBytes}
+use Rattle.numberruns.proofs.NumberLaws.{numbers-back}
 use Rattle.publicpart.specs.Bounds.{returnOf, bins, bounds}
 use Rattle.publicpart.specs.Public.{publicOf}
 use Rattle.publicpart.proofs.BoundLaws.{length-bins, bounds-none}
@@ -24,7 +25,7 @@ use Rattle.demands.specs.Terms.{Good}
 use Rattle.demands.specs.Complete.{keptPoints}
 use Rattle.demands.specs.BoundsOfKept.{Bounded, binOf, Binned, BoundsOfKept}
 use Rattle.demands.proofs.ReleaseLaws.{public-sound, released, Known, accepted-means, of-output}
-use Rattle.demands.proofs.BoundsBack.{numbers-back, bounded-by}
+use Rattle.demands.proofs.BoundsBack.{bounded-by}
 
 -- ---- the released file
 

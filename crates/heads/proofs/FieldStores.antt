@@ -1,20 +1,15 @@
 -- Laws of fields that are stored one after the other.
 -- Assumes nothing.
-use mathlib.Core.Path.{_≡_, refl, sym, _∙_}
+use mathlib.Core.Path.{_≡_, refl, sym, ap, _∙_}
 use Prim.Native.Nat.{ℕ, _+_}
 use mathlib.Core.List.{List, [], _∷_, map}
 use lib.ListN.{length, replicate}
 use lib.Seq.{sets}
 use Rattle.fields.specs.Bytes.{Bytes, bytesOf, join, Fit}
-use Rattle.fields.specs.Lists.{total}
-use Rattle.fields.proofs.ByteLaws.{length-bytesOf, length-join}
 use Rattle.fields.proofs.StoreLaws.{sets-append}
+use Rattle.numberruns.specs.NumberRuns.{numbersBytes}
+use Rattle.numberruns.proofs.NumberLaws.{stored-next, stored-none}
 use Rattle.heads.specs.Stores.{stores}
-use Rattle.publicpart.specs.Bounds.{numbersBytes}
-
-pub fit-lengths : (fs : List Bytes) → Fit (map length fs) fs
-fit-lengths [] = tt
-fit-lengths (f ∷ fs) = (refl, fit-lengths fs)
 
 -- where the fields have these widths, they are stored as one run
 pub stores-join : (ws : List ℕ) (fs : List Bytes) (d : Bytes) (at : ℕ) → Fit ws fs → stores ws fs d at ≡ sets d at (join fs)
@@ -25,17 +20,32 @@ stores-join (w ∷ ws) [] d at h = absurd h
 stores-join (w ∷ ws) (f ∷ fs) d at h =
     stores-join ws fs (sets d at f) (at + w) (h .1) ∙ rw (← h .0) (sym (sets-append d at f (join fs)))
 
--- ---- numbers of one width
+-- ---- stores one after the other, each of a field
 
-fit-numbers : (w : ℕ) (ns : List ℕ) → Fit (replicate (length ns) w) (map (bytesOf w) ns)
-fit-numbers w [] = tt
-fit-numbers w (n ∷ ns) = (length-bytesOf w n, fit-numbers w ns)
+-- bytes are stored that are the field, and then the rest
+pub record Step (d : Bytes) (at : ℕ) (f : Bytes) (Rest : Bytes → Type 0) : Type 0 where
+  pub next : Bytes
+  pub is : next ≡ sets d at f
+  pub rest : Rest next
 
-module _ (w : ℕ) (ns : List ℕ) where
-  pub length-numbers : length (numbersBytes w ns) ≡ total (λ n. n) (replicate (length ns) w)
-  unfolding numbersBytes
-  length-numbers = length-join (replicate (length ns) w) (map (bytesOf w) ns) (fit-numbers w ns)
+infixr 3 _▸_
+abbrev pub _▸_ : {next d g f : Bytes} {at : ℕ} {Rest : Bytes → Type 0} → (next ≡ sets d at g) × (g ≡ f) → Rest next → Step d at f Rest
+_▸_ {next = next} {d = d} {at = at} e rest = record { next = next; is = e .0 ∙ ap (sets d at) (e .1); rest = rest }
 
-  pub stores-numbers : (d : Bytes) (at : ℕ) → stores (replicate (length ns) w) (map (bytesOf w) ns) d at ≡ sets d at (numbersBytes w ns)
-  unfolding numbersBytes
-  stores-numbers d at = stores-join (replicate (length ns) w) (map (bytesOf w) ns) d at (fit-numbers w ns)
+-- what the output is after each store
+abbrev pub Steps : List ℕ → List Bytes → Bytes → ℕ → Bytes → Type 0
+Steps [] fs d at out = out ≡ d
+Steps (w ∷ ws) [] d at out = out ≡ d
+Steps (w ∷ ws) (f ∷ fs) d at out = Step d at f (λ next. Steps ws fs next (at + w) out)
+
+pub all-stored : (ws : List ℕ) (fs : List Bytes) (d : Bytes) (at : ℕ) (out : Bytes) → Steps ws fs d at out → out ≡ stores ws fs d at
+all-stored [] fs d at out e = e
+all-stored (w ∷ ws) [] d at out e = e
+all-stored (w ∷ ws) (f ∷ fs) d at out e =
+    all-stored ws fs (e .next) (at + w) out (e .rest) ∙ ap (λ (n : Bytes). stores ws fs n (at + w)) (e .is)
+
+-- numbers back to back are fields of one width
+pub each-stored : (w : ℕ) (ns : List ℕ) (d : Bytes) (at : ℕ) {next : Bytes} → next ≡ sets d at (numbersBytes w ns)
+    → next ≡ stores (replicate (length ns) w) (map (bytesOf w) ns) d at
+each-stored w [] d at e = e ∙ stored-none d at w
+each-stored w (n ∷ ns) d at e = each-stored w ns (sets d at (bytesOf w n)) (at + w) (e ∙ stored-next d at w n ns)

@@ -1,26 +1,26 @@
--- Laws of a header's bytes: there are none of a source shorter than a header, and else 227, in fields of the layout's widths.
+-- Laws of a header's bytes: there are none of a source shorter than a header, and else they are the fields at their places.
 -- Assumes nothing.
-use mathlib.Core.Path.{_≡_, sym, ap, _∙_}
+use mathlib.Core.Path.{_≡_, refl, ap, _∙_}
 use Prim.Native.Nat.{_≤_, _<_}
 use native.Mathlib.Omega.{arith}
 use borrow.Author.Tests.{le-leb, lt-leb}
-use mathlib.Core.List.{[], map}
+use mathlib.Core.List.{[]}
 use lib.ListN.{length}
 use lib.Seq.{sets}
-use Rattle.fields.specs.Bytes.{Bytes, part, join, Fit}
-use Rattle.fields.specs.Text.{cut}
-use Rattle.fields.specs.Lists.{total}
-use Rattle.fields.proofs.ByteLaws.{length-bytesOf, length-part, length-join}
-use Rattle.fields.proofs.TextLaws.{length-padded, held}
+use Rattle.fields.specs.Bytes.{Bytes, part, join}
+use Rattle.fields.proofs.ByteLaws.{length-part}
+use Rattle.fields.proofs.TextLaws.{held}
+use Rattle.numberruns.specs.NumberRuns.{numbersBytes}
 use Rattle.headerfields.specs.HeaderFields.{headerBlock}
 use Rattle.publicpart.specs.Bounds.{boundNumbers}
-use Rattle.publicpart.specs.Public.{carriedOf}
 use Rattle.publicpart.specs.Head.{headWidths, headFields}
-use Rattle.heads.specs.declared.Totals.{Totals}
+use Rattle.publicpart.proofs.PublicLaws.{carried-ids, carried-system, carried-software, carried-scaling}
+use Rattle.publicpart.proofs.HeadLaws.{Fitting, head-fits}
 use Rattle.tally.specs.Tally.{binNumbers}
+use Rattle.heads.specs.declared.Totals.{Totals}
 use Rattle.heads.specs.Heads.{headWith, bytesIf, headBytes}
-use Rattle.heads.specs.Stores.{stores}
-use Rattle.heads.proofs.FieldStores.{fit-lengths, stores-join, length-numbers}
+use Rattle.heads.specs.Stores.{fieldsStored}
+use Rattle.heads.proofs.FieldStores.{stores-join}
 
 pub no-head : (s : Bytes) (t : Totals) → length s < headerBlock → headBytes s t ≡ []
 unfolding headBytes bytesIf
@@ -33,25 +33,22 @@ module _ (s : Bytes) (t : Totals) (long : headerBlock ≤ length s) where
   unfolding headBytes bytesIf
   whole-head = rw (le-leb headerBlock (length s) long)
 
-  head-widths : map length (headFields (headWith s t)) ≡ headWidths
-  unfolding headFields headWith carriedOf total binNumbers boundNumbers
-  head-widths =
-      simp (
-        length-part 4 20 s (omega arith),
-        length-padded 32 (cut (part 26 32 s)) (held 26 32 s .short),
-        length-padded 32 (cut (part 58 32 s)) (held 58 32 s .short),
-        length-bytesOf,
-        length-numbers,
-        length-part 131 48 s (omega arith),
-      )
+  fitting : Fitting (headWith s t)
+  unfolding headWith binNumbers boundNumbers
+  fitting =
+      record {
+        ids = ap length (carried-ids s) ∙ length-part 4 20 s (omega arith);
+        system = rw (carried-system s) (held 26 32 s .short);
+        software = rw (carried-software s) (held 58 32 s .short);
+        bins = refl;
+        scaling = ap length (carried-scaling s) ∙ length-part 131 48 s (omega arith);
+        bounds = refl;
+      }
 
-  pub head-fits : Fit headWidths (headFields (headWith s t))
-  head-fits = rw head-widths at (fit-lengths (headFields (headWith s t)))
-
-  pub length-head : length (headBytes s t) ≡ headerBlock
-  unfolding total
-  length-head = ap length whole-head ∙ length-join headWidths (headFields (headWith s t)) head-fits
-
-  -- the fields, stored one after the other
-  pub head-stored : (d : Bytes) → stores headWidths (headFields (headWith s t)) d 0 ≡ sets d 0 (headBytes s t)
-  head-stored d = stores-join headWidths (headFields (headWith s t)) d 0 head-fits ∙ ap (sets d 0) (sym whole-head)
+  -- the four groups of fields, stored one after the other
+  pub head-stored : (d front middle scaled out : Bytes) → front ≡ fieldsStored 0 5 (headWith s t) d → middle ≡ fieldsStored 5 9 (headWith s t) front
+      → scaled ≡ sets middle 131 (part 131 48 s) → out ≡ sets scaled 179 (numbersBytes 8 (boundNumbers (t .bounds))) → out ≡ sets d 0 (headBytes s t)
+  unfolding headWith
+  head-stored d front middle scaled out by-front by-middle by-scaling by-bounds =
+      rw (by-bounds, by-scaling, by-middle, by-front, ← carried-scaling s, whole-head)
+      (stores-join headWidths (headFields (headWith s t)) d 0 (head-fits (headWith s t) fitting))

@@ -2,14 +2,14 @@
 -- Assumes nothing.
 use mathlib.Core.Path.{_≡_, refl, sym, ap, _∙_}
 use mathlib.Core.Logic.{_⊎_, inl, inr}
-use Prim.Native.Nat.{ℕ, zero, suc, _+_, _-_, _*_, _≤_, _<_, min}
-use native.Mathlib.Nat.{not-suc-le-zero, eq-zero-or-pos}
+use Prim.Native.Nat.{ℕ, zero, suc, _+_, _-_, _*_, _^_, _≤_, _<_, min}
+use native.Mathlib.Nat.{not-suc-le-zero, eq-zero-or-pos, mul-le-mul-right, le-of-suc-le-suc}
 use native.Mathlib.Omega.{arith}
 use mathlib.Core.List.{List, [], _∷_, _++_, map}
 use lib.ListN.{length, getD, drop, length-append, drop-of-length-le}
 use lib.Seq.{sets, length-sets, drop-cons}
-use Rattle.fields.specs.Bytes.{Bytes, part, join, bytesOf}
-use Rattle.fields.proofs.ByteLaws.{length-bytesOf, part-front, part-behind}
+use Rattle.fields.specs.Bytes.{Bytes, part, num, join, bytesOf}
+use Rattle.fields.proofs.ByteLaws.{num-bytesOf, length-bytesOf, part-front, part-behind, part-part}
 use Rattle.fields.proofs.StoreLaws.{sets-append, sets-out}
 use Rattle.numberruns.specs.NumberRuns.{numbersBytes}
 
@@ -19,7 +19,7 @@ length-numbers w [] = omega arith
 length-numbers w (n ∷ ns) = omega (arith, length-append (bytesOf w n) (join (map (bytesOf w) ns)), length-bytesOf w n, length-numbers w ns)
 
 -- number i of them, at its place
-pub numbers-at : (w : ℕ) (ns : List ℕ) (i : ℕ) → i < length ns → part (i * w) w (numbersBytes w ns) ≡ bytesOf w (getD ns i 0)
+numbers-at : (w : ℕ) (ns : List ℕ) (i : ℕ) → i < length ns → part (i * w) w (numbersBytes w ns) ≡ bytesOf w (getD ns i 0)
 unfolding numbersBytes join
 numbers-at w [] i h = absurd (not-suc-le-zero h)
 numbers-at w (n ∷ ns) zero h =
@@ -28,6 +28,16 @@ numbers-at w (n ∷ ns) zero h =
 numbers-at w (n ∷ ns) (suc i) h =
     let e : suc i * w ≡ w + i * w = omega arith in
     rw e (part-behind w (i * w) w (bytesOf w n) (join (map (bytesOf w) ns)) (length-bytesOf w n) ∙ numbers-at w ns i (omega arith))
+
+-- and read back, where bytes have them at a place
+pub numbers-back : (s : Bytes) (at w i : ℕ) (ns : List ℕ) → part at (length ns * w) s ≡ numbersBytes w ns → i < length ns → getD ns i 0 < 256 ^ w
+    → num (part (at + i * w) w s) ≡ getD ns i 0
+numbers-back s at w i ns e h small =
+    ap num (sym (part-part at (length ns * w) (i * w) w s (fits w i (length ns) h)) ∙ ap (part (i * w) w) e ∙ numbers-at w ns i h)
+    ∙ num-bytesOf w (getD ns i 0) small
+  where
+    fits : (w i n : ℕ) → i < n → i * w + w ≤ n * w
+    fits w i (suc n) h = omega (arith, mul-le-mul-right w (le-of-suc-le-suc h))
 
 -- ---- writing them
 
