@@ -8,15 +8,15 @@ use mathlib.Core.Logic.{inl}
 use borrow.Author.Tests.{lt-ltb, le-ltb}
 use lib.ListN.{length, drop}
 use lib.Dec.{T, ltb}
-use Rattle.fields.specs.Bytes.{Bytes, part, num}
+use Rattle.fields.specs.Bytes.{Bytes, part}
 use Rattle.fields.specs.Text.{cut}
 use Rattle.fields.specs.Checks.{Clear}
 use Rattle.fields.specs.declared.Verdict.the-variants.{Passes}
-use Rattle.fields.proofs.ByteLaws.{part-drop, part-part}
+use Rattle.fields.proofs.ByteLaws.{part-part, length-part-le}
 use Rattle.fields.proofs.TextLaws.{cut-front, length-cut}
-use Rattle.fields.proofs.ByteLaws.{length-part-le}
-use Rattle.records.specs.Records.{recordOf, sizeOf, payloadLength, places, walkEnd}
-use Rattle.records.proofs.RecordLaws.{walk-grows, walkEnd-step}
+use Rattle.records.specs.Records.{sizeOf, places, walkEnd}
+use Rattle.records.proofs.FieldLaws.{user-at, id-at, description-at, payload-at}
+use Rattle.records.proofs.RecordLaws.{walk-grows, walkEnd-step, places-none, places-step}
 use Rattle.headerfields.specs.HeaderFields.{headerSize, pointOffset, recordCount}
 use Rattle.lasfile.specs.FileChecks.{recordsEnd, fileVerdict}
 use Rattle.cursor.specs.Steps.{recordPlaces, nextCursor, stepOf, collect, visited}
@@ -24,7 +24,8 @@ use Rattle.cursor.specs.Visits.{cursor, Means, Visits}
 use Rattle.cursor.specs.declared.RecordPlaces.{RecordPlaces}
 use Rattle.cursor.specs.declared.Step.{Step}
 use Rattle.cursor.specs.declared.Step.the-variants.{Record, Refused}
-use Rattle.lasfile.proofs.Passed.{Passed, passed}
+use Rattle.lasfile.specs.Passed.{Passed}
+use Rattle.lasfile.proofs.Passed.{passed}
 use Rattle.cursor.proofs.StepLaws.{test, refused-18, answered}
 
 module _ (s : Bytes) (passes : fileVerdict s ≡ Passes) where
@@ -57,14 +58,14 @@ module _ (s : Bytes) (passes : fileVerdict s ≡ Passes) where
       }
 
   visits-left : (k m index position : ℕ) → Left k index position → visited (k + suc m) s (cursor index position) ≡ map (recordPlaces s) (places 2 k position s)
-  unfolding visited places collect
+  unfolding visited collect
   visits-left zero m index position l =
       let e : 0 + suc m ≡ suc m = omega arith in
       let i : index ≡ recordCount s = omega (arith, l .counted) in
-      rw (e, i) (ap (λ (t : Step). collect t (visited m s)) (ends-in-18 position))
+      rw (e, i, places-none 2 position s) (ap (λ (t : Step). collect t (visited m s)) (ends-in-18 position))
   visits-left (suc k) m index position l =
       let e : suc k + suc m ≡ suc (k + suc m) = omega arith in
-      rw e
+      rw (e, places-step 2 k position s)
       (ap (λ (t : Step). collect t (visited (k + suc m) s)) (step-is k index position l)
       ∙ ap (λ (r : List RecordPlaces). recordPlaces s position ∷ r) (visits-left k m (index + 1) (position + sizeOf 2 (drop position s)) (left-next k index position l)))
 
@@ -77,22 +78,22 @@ module _ (s : Bytes) (passes : fileVerdict s ≡ Passes) where
 -- ---- what a record's places mean
 
 -- a text's cut, at its place in the file
-text-at : (s : Bytes) (at shift w : ℕ) → part (at + shift) (length (cut (part (at + shift) w s))) s ≡ cut (part shift w (drop at s))
-text-at s at shift w =
-    let t : Bytes = part (at + shift) w s in
-    let e : at + shift + 0 ≡ at + shift = omega arith in
-    let fits : 0 + length (cut t) ≤ w = omega (arith, length-cut t, length-part-le (at + shift) w s) in
-    let inner : part 0 (length (cut t)) t ≡ part (at + shift) (length (cut t)) s = part-part (at + shift) w 0 (length (cut t)) s fits ∙ rw e in
-    sym inner ∙ cut-front t ∙ ap cut (sym (part-drop at shift w s))
+text-at : (s : Bytes) (at w : ℕ) → part at (length (cut (part at w s))) s ≡ cut (part at w s)
+text-at s at w =
+    let t : Bytes = part at w s in
+    let e : at + 0 ≡ at = omega arith in
+    let fits : 0 + length (cut t) ≤ w = omega (arith, length-cut t, length-part-le at w s) in
+    let inner : part 0 (length (cut t)) t ≡ part at (length (cut t)) s = part-part at w 0 (length (cut t)) s fits ∙ rw e in
+    sym inner ∙ cut-front t
 
 places-mean : (s : Bytes) (at : ℕ) → Means s at (recordPlaces s at)
-unfolding recordPlaces recordOf
+unfolding recordPlaces
 places-mean s at =
     record {
-      user = text-at s at 2 16;
-      id = ap num (sym (part-drop at 18 2 s));
-      description = text-at s at 22 32;
-      payload = sym (part-drop at 54 (payloadLength 2 (drop at s)) s);
+      user = text-at s (at + 2) 16 ∙ sym (user-at 2 s at);
+      id = sym (id-at 2 s at);
+      description = text-at s (at + 22) 32 ∙ sym (description-at 2 s at);
+      payload = sym (payload-at 2 s at);
     }
 
 pub stepping : Visits

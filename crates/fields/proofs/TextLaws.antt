@@ -1,13 +1,15 @@
 -- Laws of texts. Only this file opens `cut`.
 -- Assumes nothing.
 use mathlib.Core.Path.{_≡_, refl, ap}
+use mathlib.Core.Bool.{Bool, true, false, _&&_}
 use Prim.Native.Nat.{ℕ, zero, suc, _+_, _-_, _≤_, _<_}
 use native.Mathlib.Omega.{arith}
 use mathlib.Core.List.{[], _∷_, _++_}
 use lib.ListN.{length, drop, getD, length-append, length-replicate}
 use lib.Seq.{drop-cons}
+use lib.Dec.{T, ltb}
 use Rattle.fields.specs.Bytes.{Bytes, zeros, part}
-use Rattle.fields.specs.Text.{cut, padded}
+use Rattle.fields.specs.Text.{cut, padded, Held}
 use Rattle.fields.proofs.ByteLaws.{length-part-le}
 
 cut-zeros : (k : ℕ) → cut (zeros k) ≡ []
@@ -27,6 +29,22 @@ unfolding cut part
 cut-front [] = refl
 cut-front (zero ∷ bs) = refl
 cut-front (suc b ∷ bs) = ap (λ (r : Bytes). suc b ∷ r) (cut-front bs)
+
+-- neither a zero nor a space stands in the text
+abbrev pub solid : Bytes → Bool
+solid [] = true
+solid (b ∷ bs) = ltb 32 b && solid bs
+
+second : (a b : Bool) → T (a && b) → T b
+second true b h = h
+second false b h = absurd h
+
+-- such a text is its own cut
+pub cut-whole : (t : Bytes) → T (solid t) → cut t ≡ t
+unfolding cut
+cut-whole [] h = refl
+cut-whole (zero ∷ bs) h = absurd h
+cut-whole (suc b ∷ bs) h = ap (λ (r : Bytes). suc b ∷ r) (cut-whole bs (second (ltb 32 (suc b)) (solid bs) h))
 
 -- zeros behind a cut text are cut off again
 cut-again : (t : Bytes) (k : ℕ) → cut (cut t ++ zeros k) ≡ cut t
@@ -54,11 +72,6 @@ pub cut-goes : (i : ℕ) (t : Bytes) → i < length t → (getD t i 0 ≡ 0 → 
 cut-goes i t h n = rw (drop-cons t i 0 h) (past-byte (getD t i 0) (drop (suc i) t) n)
 
 -- ---- a text in a field
-
--- a text that a field of w bytes holds and gives back
-pub record Held (w : ℕ) (t : Bytes) : Type 0 where
-  pub short : length t ≤ w
-  pub back : cut (padded w t) ≡ t
 
 pub length-padded : (w : ℕ) (t : Bytes) → length t ≤ w → length (padded w t) ≡ w
 unfolding padded

@@ -12,7 +12,7 @@ use Rattle.fields.proofs.ByteLaws.{num-part-lt, length-part-le, length-bytesOf}
 use Rattle.fields.proofs.TextLaws.{held, length-padded}
 use Rattle.fields.proofs.StoreLaws.{store-behind}
 use Rattle.records.specs.Records.{Record, recordOf, payloadLength, recordBytes, recordLen}
-use Rattle.records.proofs.RecordLaws.{SoundRecord}
+use Rattle.records.specs.ReadBack.{SoundRecord}
 use Rattle.keptrecords.specs.RecordParts.{nameBytes, contentBytes}
 
 module _ (v : Bytes) (bytes : AllBytes v) where

@@ -1,35 +1,14 @@
--- What it means that a file passes the file checks, fact by fact.
+-- A file passes the file checks exactly if all that they look at is as it should be.
 -- Assumes nothing.
-use mathlib.Core.Path.{_≡_}
-use Prim.Native.Nat.{ℕ, _+_, _*_, _^_, _≤_, _<_}
+use Prim.Native.Nat.{ℕ, _*_, _^_, _≤_, _<_}
 use native.Mathlib.Nat.{mul-le-mul}
 use native.Mathlib.Omega.{arith}
-use lib.ListN.{length}
-use lib.Dec.{T}
-use Rattle.fields.specs.Bytes.{Bytes, part}
 use Rattle.fields.specs.Checks.{AllClear}
-use Rattle.fields.specs.declared.Verdict.the-variants.{Passes}
 use Rattle.fields.proofs.CheckLaws.{none-fails, all-clear}
-use Rattle.formats.specs.Formats.{formatSize}
-use Rattle.scaling.specs.Scaling.{scalingOf, goodScaling}
-use Rattle.headerfields.specs.HeaderFields.{signature, version, headerBlock, headerSize, pointOffset, format, recordLength, pointCount}
-use Rattle.lasfile.specs.FileChecks.{recordsEnd, fileChecks, fileVerdict}
+use Rattle.lasfile.specs.FileChecks.{fileChecks, fileVerdict}
+use Rattle.lasfile.specs.Passed.{PassingTells, FactsPass}
 
-pub record Passed (s : Bytes) : Type 0 where
-  pub whole : headerBlock ≤ length s
-  pub signed : part 0 4 s ≡ signature
-  pub versioned : part 24 2 s ≡ version
-  pub headerLow : headerBlock ≤ headerSize s
-  pub headerHigh : headerSize s ≤ length s
-  pub formatted : format s ≤ 3
-  pub recordLow : formatSize (format s) ≤ recordLength s
-  pub offsetLow : headerSize s ≤ pointOffset s
-  pub offsetHigh : pointOffset s ≤ length s
-  pub walked : recordsEnd s ≤ pointOffset s
-  pub pointed : pointOffset s + pointCount s * recordLength s ≤ length s
-  pub scaled : T (goodScaling (scalingOf s))
-
-pub passed : (s : Bytes) → fileVerdict s ≡ Passes → Passed s
+pub passed : PassingTells
 unfolding fileVerdict
 passed s e =
     let h : AllClear (fileChecks s) = none-fails (fileChecks s) e in
@@ -48,7 +27,7 @@ passed s e =
       scaled = h .1 .1 .1 .1 .1 .1 .1 .1 .1 .0;
     }
 
-pub passes : (s : Bytes) → Passed s → fileVerdict s ≡ Passes
+pub passes : FactsPass
 unfolding fileVerdict
 passes s p =
     all-clear (fileChecks s) (

@@ -1,1 +1,2 @@
 pub mod FileChecks
+pub mod Passed

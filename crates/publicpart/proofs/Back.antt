@@ -16,7 +16,7 @@ use Rattle.scaling.specs.Scaling.{scalingIn, scalingOf}
 use Rattle.numberruns.specs.NumberRuns.{numbersBytes}
 use Rattle.headerfields.specs.HeaderFields.{headerBlock, headerSize, pointOffset, recordCount, format, recordLength, pointCount}
 use Rattle.lasfile.specs.FileChecks.{recordsEnd}
-use Rattle.lasfile.proofs.Passed.{Passed}
+use Rattle.lasfile.specs.Passed.{Passed}
 use Rattle.publicpart.specs.Bounds.{bins, bounds}
 use Rattle.publicpart.specs.Public.{Public, carriedOf, contents}
 use Rattle.publicpart.specs.Head.{headWidths, headFields}

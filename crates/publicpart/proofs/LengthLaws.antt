@@ -11,7 +11,7 @@ use Rattle.records.specs.Records.{recordLen}
 use Rattle.records.proofs.RecordLaws.{walk-total}
 use Rattle.headerfields.specs.HeaderFields.{headerSize, pointOffset, recordCount, recordLength, pointCount}
 use Rattle.lasfile.specs.FileChecks.{recordsEnd}
-use Rattle.lasfile.proofs.Passed.{Passed}
+use Rattle.lasfile.specs.Passed.{Passed}
 use Rattle.keeping.specs.Keeping.{keepsPoint}
 use Rattle.publicpart.specs.Public.{Public, carriedOf, contents, restrict, publicOf, keptRecord}
 use Rattle.publicpart.specs.Render.{newOffset, totals}

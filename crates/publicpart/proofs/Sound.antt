@@ -9,14 +9,16 @@ use Rattle.fields.specs.Lists.{All}
 use Rattle.fields.specs.Bytes.{Bytes, AllBytes}
 use Rattle.fields.proofs.ListLaws.{All-kept, total-kept, length-kept}
 use Rattle.fields.proofs.ByteLaws.{num-part-lt, length-part, length-pieces, pieces-width}
-use Rattle.fields.proofs.TextLaws.{Held, held}
+use Rattle.fields.specs.Text.{Held}
+use Rattle.fields.proofs.TextLaws.{held}
 use Rattle.formats.specs.Formats.{formatSize}
 use Rattle.records.specs.Records.{recordLen}
-use Rattle.records.proofs.RecordLaws.{SoundRecord, walk-sound, walk-total, length-walk}
+use Rattle.records.specs.ReadBack.{SoundRecord}
+use Rattle.records.proofs.RecordLaws.{walk-sound, walk-total, length-walk}
 use Rattle.scaling.specs.Scaling.{scalingIn, scalingOf, goodScaling}
 use Rattle.headerfields.specs.HeaderFields.{headerSize, pointOffset, recordCount, format, recordLength, pointCount}
 use Rattle.lasfile.specs.FileChecks.{recordsEnd}
-use Rattle.lasfile.proofs.Passed.{Passed}
+use Rattle.lasfile.specs.Passed.{Passed}
 use Rattle.keeping.specs.Keeping.{keepsPoint}
 use Rattle.publicpart.specs.Public.{Carried, Public, carriedOf, contents, restrict, publicOf, keptRecord}
 use Rattle.publicpart.specs.Render.{newOffset}

@@ -1,7 +1,7 @@
 -- Laws of records: the walk step by step, those of a file are sound, and sound records are read back.
 -- Assumes nothing.
 use mathlib.Core.Path.{_≡_, refl, ap, _∙_}
-use Prim.Native.Nat.{ℕ, zero, suc, _+_, _-_, _^_, _≤_, _<_}
+use Prim.Native.Nat.{ℕ, zero, suc, _+_, _-_, _≤_, _<_}
 use native.Mathlib.Nat.{not-suc-le-zero}
 use native.Mathlib.Omega.{arith}
 use mathlib.Core.List.{List, [], _∷_, _++_, map, append-assoc}
@@ -12,15 +12,9 @@ use Rattle.fields.specs.Lists.{All, total}
 use Rattle.fields.specs.Bytes.{Bytes, AllBytes, part, num, bytesOf, join, Fit, start}
 use Rattle.fields.specs.Text.{cut, padded}
 use Rattle.records.specs.Records.{Record, recordWidths, frontSize, payloadLength, recordOf, sizeOf, places, walk, walkEnd, recordFields, recordBytes, recordLen, recordsBytes}
+use Rattle.records.specs.ReadBack.{SoundRecord, WalkBack, WalkEndBack}
 use Rattle.fields.proofs.ByteLaws.{num-bytesOf, length-bytesOf, num-part-lt, length-part, part-drop, field-back, length-join, drop-bytes}
-use Rattle.fields.proofs.TextLaws.{Held, held, length-padded}
-
--- a record that can be written and read back
-pub record SoundRecord (lw : ℕ) (r : Record) : Type 0 where
-  pub user : Held 16 (r .user)
-  pub id : r .id < 256 ^ 2
-  pub description : Held 32 (r .description)
-  pub payload : length (r .payload) < 256 ^ lw
+use Rattle.fields.proofs.TextLaws.{held, length-padded}
 
 -- ---- reading a file
 
@@ -39,6 +33,10 @@ unfolding walkEnd
 walk-grows lw zero at s = omega arith
 walk-grows lw (suc n) at s = omega (arith, walk-grows lw n (at + sizeOf lw (drop at s)) s)
 
+pub walkEnd-none : (lw at : ℕ) (s : Bytes) → walkEnd lw 0 at s ≡ at
+unfolding walkEnd
+walkEnd-none lw at s = refl
+
 pub walkEnd-step : (lw n at : ℕ) (s : Bytes) → walkEnd lw (suc n) at s ≡ walkEnd lw n (at + sizeOf lw (drop at s)) s
 unfolding walkEnd
 walkEnd-step lw n at s = refl
@@ -46,6 +44,14 @@ walkEnd-step lw n at s = refl
 pub walkEnd-one : (lw at : ℕ) (s : Bytes) → walkEnd lw 1 at s ≡ at + sizeOf lw (drop at s)
 unfolding walkEnd
 walkEnd-one lw at s = refl
+
+pub places-none : (lw at : ℕ) (s : Bytes) → places lw 0 at s ≡ []
+unfolding places
+places-none lw at s = refl
+
+pub places-step : (lw n at : ℕ) (s : Bytes) → places lw (suc n) at s ≡ at ∷ places lw n (at + sizeOf lw (drop at s)) s
+unfolding places
+places-step lw n at s = refl
 
 pub walk-step : (lw n at : ℕ) (s : Bytes) → walk lw (suc n) at s ≡ recordOf lw (drop at s) ∷ walk lw n (at + sizeOf lw (drop at s)) s
 unfolding walk places
@@ -167,8 +173,7 @@ module _ (lw : ℕ) where
   next : (pre : Bytes) (r : Record) (at : ℕ) → SoundRecord lw r → length pre ≡ at → length (pre ++ recordBytes lw r) ≡ at + recordLen lw r
   next pre r at h e = omega (arith, length-append pre (recordBytes lw r), length-recordBytes r h)
 
-  pub walk-back : (rs : List Record) → All (SoundRecord lw) rs → (at : ℕ) (pre rest : Bytes) → length pre ≡ at
-      → walk lw (length rs) at (pre ++ (recordsBytes lw rs ++ rest)) ≡ rs
+  pub walk-back : WalkBack lw
   unfolding walk places
   walk-back [] h at pre rest e = refl
   walk-back (r ∷ rs) h at pre rest e =
@@ -180,10 +185,9 @@ module _ (lw : ℕ) where
         walk-back rs (h .1) (at + recordLen lw r) (pre ++ recordBytes lw r) rest (next pre r at (h .0) e),
       )
 
-  pub walkEnd-back : (rs : List Record) → All (SoundRecord lw) rs → (at : ℕ) (pre rest : Bytes) → length pre ≡ at
-      → walkEnd lw (length rs) at (pre ++ (recordsBytes lw rs ++ rest)) ≡ at + total (recordLen lw) rs
+  pub walkEnd-back : WalkEndBack lw
   unfolding total
-  walkEnd-back [] h at pre rest e = unfold walkEnd in omega arith
+  walkEnd-back [] h at pre rest e = omega (arith, walkEnd-none lw at (pre ++ (recordsBytes lw [] ++ rest)))
   walkEnd-back (r ∷ rs) h at pre rest e =
       rw (
         walkEnd-step lw (length rs) at (pre ++ (recordsBytes lw (r ∷ rs) ++ rest)),

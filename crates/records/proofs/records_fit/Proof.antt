@@ -4,13 +4,12 @@ use mathlib.Core.Path.{_≡_, refl, sym, ap, _∙_}
 use mathlib.Core.Bool.{true, false}
 use Prim.Native.Nat.{ℕ, zero, suc, _+_, _-_, _≤_, _<_}
 use native.Mathlib.Omega.{arith}
-use borrow.Author.Needs.{needs}
 use borrow.Author.Tests.{lt-leb, leb-true, leb-false, not-true, not-false}
 use lib.Dec.{leb}
 use lib.ListN.{drop}
 use Rattle.fields.specs.Bytes.{Bytes}
 use Rattle.records.specs.Records.{sizeOf, walkEnd}
-use Rattle.records.proofs.RecordLaws.{walk-grows, walkEnd-step, front-in-size}
+use Rattle.records.proofs.RecordLaws.{walk-grows, walkEnd-none, walkEnd-step, front-in-size}
 use Rattle.records.proofs.records_fit.Statement.{statement}
 use Rattle.records.proofs.records_fit.Tie as tie
 
@@ -34,8 +33,7 @@ runs-past s left at end h size k e =
     )
 
 none-left : (s : Bytes) (left at : ℕ) → left ≤ 0 → walkEnd 2 left at s ≡ at
-unfolding walkEnd
-none-left s zero at h = refl
+none-left s zero at h = walkEnd-none 2 at s
 none-left s (suc left) at h = absurd (omega arith)
 
 abbrev Inv-loop : tie.InvT-loop
@@ -47,24 +45,12 @@ abbrev μ-loop : tie.MeasureT-loop
 loop-holds : tie.Need-loop-holds Inv-loop μ-loop
 loop-holds c = refl
 
-fits-in-requires : tie.Need-fits-in-requires Inv-loop μ-loop
-fits-in-requires c κs = search needs
-
 returns : tie.Need-returns Inv-loop μ-loop
 returns c =
     let a = c .before .before .before .before .before .args in
     let l = c .before .before .before .loop in
     let e : leb (l .at + 54) (a .end) ≡ false = sym (c .before .fits-in .ensures) ∙ not-true _ (c .if1 .taken) in
     sym (rw (l .inv) (runs-past (a .file .now) (l .left) (l .at) (a .end) (omega arith) 54 (front-in-size 2 (drop (l .at) (a .file .now))) e))
-
-size-at-requires : tie.Need-size-at-requires Inv-loop μ-loop
-size-at-requires c κs =
-    let a = c .before .before .before .before .before .args in
-    let l = c .before .before .before .loop in
-    omega (arith, leb-true (l .at + 54) (a .end) (sym (c .before .fits-in .ensures) ∙ not-false _ (c .if1 .left)))
-
-fits-in-requires-2 : tie.Need-fits-in-requires-2 Inv-loop μ-loop
-fits-in-requires-2 c κs = search needs
 
 returns-2 : tie.Need-returns-2 Inv-loop μ-loop
 returns-2 c =
@@ -106,10 +92,10 @@ records-fit-spec =
     Inv-loop
     μ-loop
     loop-holds
-    fits-in-requires
+    (λ c κs. tt)
     returns
-    size-at-requires
-    fits-in-requires-2
+    (λ c κs. tt)
+    (λ c κs. tt)
     returns-2
     add-at
     sub-left

@@ -16,9 +16,6 @@ returns c =
 add-number-at : tie.Need-add-number-at
 add-number-at c = search needs
 
-number-at-requires : tie.Need-number-at-requires
-number-at-requires c κs = search needs
-
 add-result : tie.Need-add-result
 add-result c = search needs
 
@@ -28,4 +25,4 @@ returns-2 c =
     (size-is (a .file .now) (a .at) _ (c .number-at .ensures .0), omega arith)
 
 pub size-at-spec : {M : Type 1} → statement M
-size-at-spec = tie.close (tie.spec returns add-number-at number-at-requires add-result returns-2)
+size-at-spec = tie.close (tie.spec returns add-number-at (λ c κs. tt) add-result returns-2)

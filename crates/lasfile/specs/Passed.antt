@@ -1,0 +1,34 @@
+-- What it means that a file passes the file checks, fact by fact.
+-- Assumes nothing.
+use mathlib.Core.Path.{_≡_}
+use Prim.Native.Nat.{_+_, _*_, _≤_}
+use lib.ListN.{length}
+use lib.Dec.{T}
+use Rattle.fields.specs.Bytes.{Bytes, part}
+use Rattle.fields.specs.declared.Verdict.the-variants.{Passes}
+use Rattle.formats.specs.Formats.{formatSize}
+use Rattle.scaling.specs.Scaling.{scalingOf, goodScaling}
+use Rattle.headerfields.specs.HeaderFields.{signature, version, headerBlock, headerSize, pointOffset, format, recordLength, pointCount}
+use Rattle.lasfile.specs.FileChecks.{recordsEnd, fileVerdict}
+
+pub record Passed (s : Bytes) : Type 0 where
+  pub whole : headerBlock ≤ length s
+  pub signed : part 0 4 s ≡ signature
+  pub versioned : part 24 2 s ≡ version
+  pub headerLow : headerBlock ≤ headerSize s
+  pub headerHigh : headerSize s ≤ length s
+  pub formatted : format s ≤ 3
+  pub recordLow : formatSize (format s) ≤ recordLength s
+  pub offsetLow : headerSize s ≤ pointOffset s
+  pub offsetHigh : pointOffset s ≤ length s
+  pub walked : recordsEnd s ≤ pointOffset s
+  pub pointed : pointOffset s + pointCount s * recordLength s ≤ length s
+  pub scaled : T (goodScaling (scalingOf s))
+
+-- a file that passes is so
+abbrev pub PassingTells : Type 0
+PassingTells = (s : Bytes) → fileVerdict s ≡ Passes → Passed s
+
+-- a file that is so passes
+abbrev pub FactsPass : Type 0
+FactsPass = (s : Bytes) → Passed s → fileVerdict s ≡ Passes
