@@ -4,6 +4,7 @@ ghost use Prim.Native.Nat.{_+_, _<_, _^_};
 ghost use Rattle.cursor.specs.Steps.{recordPlaces, stepOf};
 use fields::Verdict;
 use fields::numbers::number_at;
+use records::FRONT;
 
 // Where the parts of a record lie in the file. The texts' lengths are those of their cuts.
 pub struct RecordPlaces {
@@ -37,7 +38,7 @@ fn places_at(file: &[u8], at: usize) -> RecordPlaces
         record_id: number_at(file, at + 18, 2),
         description_place: at + 22,
         description_length: texts::cut_length(runs::part_at(file, at + 22, 32)),
-        payload_place: at + 54,
+        payload_place: at + FRONT,
         payload_length: number_at(file, at + 20, 2) as usize,
     }
 }
@@ -53,13 +54,13 @@ impl VlrCursor {
         }
         let index = self.index;
         let position = self.position;
-        if number_at(file, 100, 4) as usize <= index {
+        if headerfields::record_count(file) <= index {
             return Step::Refused(18);
         }
-        if position < number_at(file, 94, 2) as usize {
+        if position < headerfields::header_size(file) {
             return Step::Refused(18);
         }
-        if !records::records_fit(file, 1, position, number_at(file, 96, 4) as usize) {
+        if !records::records_fit(file, 1, position, headerfields::point_offset(file)) {
             return Step::Refused(18);
         }
         let places = places_at(file, position);

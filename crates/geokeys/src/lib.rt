@@ -10,6 +10,7 @@ ghost use Rattle.geokeys.specs.GeoKeys.{isProjection, projectionPlace, p
 ghost use Rattle.geokeys.specs.Places.{placeIn, entryIn, Low};
 use fields::Verdict;
 use fields::numbers::number_at;
+use records::FRONT;
 
 // A key's value: a number, a double's 64 bits, a text's place in the file and its length; or a refusal's number.
 pub enum GeoKey {
@@ -38,13 +39,13 @@ fn find_projection(file: &[u8], id: u64) -> Found
     requires { ⌜ fileVerdict (now file) ≡ Passes ⌝ }
     ensures { λ r. ⌜ (placeIn r ≡ projectionPlace (now (file .entry)) id) × Low r ⌝ }
 {
-    let mut at = number_at(file, 94, 2) as usize;
-    let mut left = number_at(file, 100, 4);
+    let mut at = headerfields::header_size(file);
+    let mut left = headerfields::record_count(file);
     while 0 < left {
         if is_projection(file, id, at) {
             return Found::At(at);
         }
-        at += 54 + number_at(file, at + 20, 2) as usize;
+        at += records::size_at(file, at);
         left -= 1;
     }
     Found::Nothing
@@ -54,7 +55,7 @@ fn payload_at(file: &[u8], at: usize) -> &[u8]
     requires { ⌜ at + 54 < 2 ^ 64 ⌝ }
     ensures { λ r. ⌜ now r ≡ payloadAt (now (file .entry)) at ⌝ }
 {
-    runs::part_at(file, at + 54, number_at(file, at + 20, 2) as usize)
+    runs::part_at(file, at + FRONT, number_at(file, at + 20, 2) as usize)
 }
 
 // Number 41.
@@ -105,7 +106,7 @@ fn in_payload(entry: &[u8], at: usize, parameters: &[u8]) -> GeoKey
     if parameters.len() < offset + count {
         return GeoKey::Refused(46);
     }
-    GeoKey::Text(at + 54 + offset, count)
+    GeoKey::Text(at + FRONT + offset, count)
 }
 
 // Numbers 43 to 46, or the value of an entry.

@@ -100,12 +100,12 @@ fn layout_of(file: &[u8]) -> Layout
     ensures { λ r. ⌜ r ≡ layoutOf (now (file .entry)) ⌝ }
 {
     Layout {
-        header_size: number_at(file, 94, 2),
-        point_offset: number_at(file, 96, 4),
-        vlr_count: number_at(file, 100, 4),
-        point_format: number_at(file, 104, 1),
-        record_length: number_at(file, 105, 2),
-        point_count: number_at(file, 107, 4),
+        header_size: headerfields::header_size(file) as u64,
+        point_offset: headerfields::point_offset(file) as u64,
+        vlr_count: headerfields::record_count(file) as u64,
+        point_format: headerfields::format(file) as u64,
+        record_length: headerfields::record_length(file) as u64,
+        point_count: headerfields::point_count(file) as u64,
     }
 }
 

@@ -6,10 +6,10 @@ use native.Mathlib.Omega.{arith}
 use lib.ListN.{length, drop}
 use Rattle.fields.specs.Bytes.{Bytes, AllBytes}
 use Rattle.fields.specs.declared.Verdict.the-variants.{Passes}
-use Rattle.fields.proofs.ByteLaws.{num-part-lt}
 use Rattle.records.specs.Records.{sizeOf, walkEnd}
 use Rattle.records.proofs.RecordLaws.{walkEnd-step, walk-grows, front-in-size}
 use Rattle.headerfields.specs.HeaderFields.{headerSize, recordCount, pointOffset}
+use Rattle.headerfields.proofs.BoundLaws.{offset-low}
 use Rattle.lasfile.specs.FileChecks.{recordsEnd, fileVerdict}
 use Rattle.lasfile.proofs.Passed.{passed}
 
@@ -20,8 +20,8 @@ pub record Walking (s : Bytes) (left at : ℕ) : Type 0 where
   pub low : pointOffset s < 2 ^ 32
 
 pub begin : (s : Bytes) → AllBytes s → fileVerdict s ≡ Passes → Walking s (recordCount s) (headerSize s)
-unfolding recordsEnd pointOffset
-begin s bytes e = record { inside = passed s e .walked; file = passed s e .offsetHigh; low = num-part-lt 96 4 s bytes }
+unfolding recordsEnd
+begin s bytes e = record { inside = passed s e .walked; file = passed s e .offsetHigh; low = offset-low s bytes }
 
 module _ (s : Bytes) (left at : ℕ) (more : 0 < left) (w : Walking s left at) where
   pub one-more : left ≡ suc (left - 1)

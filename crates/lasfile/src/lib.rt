@@ -20,7 +20,7 @@ fn check_header(file: &[u8]) -> Verdict
     if !runs::same_bytes(runs::part_at(file, 24, 2), b"\x01\x02") {
         return Verdict::Fails(3);
     }
-    let size = fields::numbers::number_at(file, 94, 2) as usize;
+    let size = headerfields::header_size(file);
     if size < HEADER_BLOCK {
         return Verdict::Fails(4);
     }
@@ -34,17 +34,17 @@ fn check_header(file: &[u8]) -> Verdict
 fn check_points(file: &[u8]) -> Verdict
     ensures { λ r. ⌜ r ≡ firstFailing (take 3 (drop 4 (fileChecks (now (file .entry))))) ⌝ }
 {
-    let format = fields::numbers::number_at(file, 104, 1);
+    let format = headerfields::format(file);
     if 3 < format {
         return Verdict::Fails(5);
     }
-    let layout = layouts::layout_of(format as u8);
+    let layout = layouts::layout_of(format);
     let size = layout.size;
-    if (fields::numbers::number_at(file, 105, 2) as usize) < size {
+    if headerfields::record_length(file) < size {
         return Verdict::Fails(6);
     }
-    let offset = fields::numbers::number_at(file, 96, 4) as usize;
-    if offset < fields::numbers::number_at(file, 94, 2) as usize {
+    let offset = headerfields::point_offset(file);
+    if offset < headerfields::header_size(file) {
         return Verdict::Fails(7);
     }
     if file.len() < offset {
@@ -57,14 +57,14 @@ fn check_points(file: &[u8]) -> Verdict
 fn check_contents(file: &[u8]) -> Verdict
     ensures { λ r. ⌜ r ≡ firstFailing (drop 7 (fileChecks (now (file .entry)))) ⌝ }
 {
-    let size = fields::numbers::number_at(file, 94, 2) as usize;
-    let offset = fields::numbers::number_at(file, 96, 4) as usize;
-    let count = fields::numbers::number_at(file, 100, 4) as usize;
+    let size = headerfields::header_size(file);
+    let offset = headerfields::point_offset(file);
+    let count = headerfields::record_count(file);
     if !records::records_fit(file, count, size, offset) {
         return Verdict::Fails(8);
     }
-    let length = fields::numbers::number_at(file, 105, 2) as usize;
-    let points = fields::numbers::number_at(file, 107, 4) as usize;
+    let length = headerfields::record_length(file);
+    let points = headerfields::point_count(file);
     if file.len() < offset + points * length {
         return Verdict::Fails(9);
     }

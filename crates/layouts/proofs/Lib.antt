@@ -1,1 +1,2 @@
 mod PartsLaws
+pub mod LayoutLaws

@@ -2,7 +2,6 @@
 ghost use mathlib.Core.Path.{_≡_};
 ghost use Rattle.onepoint.specs.OnePoint.{pointAtOf};
 use fields::Verdict;
-use fields::numbers::number_at;
 use points::Point;
 
 pub enum PointAt {
@@ -19,12 +18,12 @@ pub fn point_at(file: &[u8], index: usize) -> PointAt
     if let Verdict::Fails(n) = verdict {
         return PointAt::Refused(n);
     }
-    if number_at(file, 107, 4) as usize <= index {
+    if headerfields::point_count(file) <= index {
         return PointAt::Refused(11);
     }
-    let length = number_at(file, 105, 2) as usize;
-    let place = number_at(file, 96, 4) as usize + index * length;
-    let format = number_at(file, 104, 1) as u8;
+    let length = headerfields::record_length(file);
+    let place = headerfields::point_offset(file) + index * length;
+    let format = headerfields::format(file);
     let decoded = points::decode(format, length as u16, runs::part_at(file, place, length));
     match decoded {
         points::Decoded::Fields(point) => PointAt::At(place, point),

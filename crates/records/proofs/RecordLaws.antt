@@ -174,16 +174,14 @@ module _ (lw : ℕ) where
   next pre r at h e = omega (arith, length-append pre (recordBytes lw r), length-recordBytes r h)
 
   pub walk-back : WalkBack lw
-  unfolding walk places
-  walk-back [] h at pre rest e = refl
+  walk-back [] h at pre rest e = unfold walk places in refl
   walk-back (r ∷ rs) h at pre rest e =
-      rw (
-        first pre r rs rest at e,
-        record-back r (h .0),
-        size-back r (h .0),
-        regroup pre r rs rest,
-        walk-back rs (h .1) (at + recordLen lw r) (pre ++ recordBytes lw r) rest (next pre r at (h .0) e),
-      )
+      let s : Bytes = pre ++ (recordsBytes lw (r ∷ rs) ++ rest) in
+      let here : recordOf lw (drop at s) ≡ r = rw (first pre r rs rest at e) (record-back r (h .0) (recordsBytes lw rs ++ rest)) in
+      let after : at + sizeOf lw (drop at s) ≡ at + recordLen lw r = rw (first pre r rs rest at e, size-back r (h .0) (recordsBytes lw rs ++ rest)) in
+      let later : walk lw (length rs) (at + recordLen lw r) s ≡ rs =
+      rw (regroup pre r rs rest) (walk-back rs (h .1) (at + recordLen lw r) (pre ++ recordBytes lw r) rest (next pre r at (h .0) e)) in
+      walk-step lw (length rs) at s ∙ rw (here, after, later)
 
   pub walkEnd-back : WalkEndBack lw
   unfolding total

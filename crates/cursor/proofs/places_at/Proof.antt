@@ -2,81 +2,49 @@
 use mathlib.Core.Path.{_≡_, sym, ap, _∙_}
 use Prim.Native.Nat.{_+_}
 use lib.ListN.{length, drop}
-use Rattle.fields.specs.Bytes.{Bytes, part, num}
+use Rattle.fields.specs.Bytes.{Bytes, part}
 use Rattle.fields.specs.Text.{cut}
-use Rattle.fields.proofs.ByteLaws.{part-drop}
 use Rattle.records.specs.Records.{payloadLength}
+use Rattle.records.proofs.FieldLaws.{length-at}
 use Rattle.cursor.specs.Steps.{recordPlaces}
 use borrow.Author.Needs.{needs}
 use Rattle.cursor.proofs.places_at.Statement.{statement}
 use Rattle.cursor.proofs.places_at.Tie as tie
 
-add-t3 : tie.Need-add-t3
-add-t3 c = search needs
-
-add-part-at : tie.Need-add-part-at
-add-part-at c = search needs
-
-part-at-requires : tie.Need-part-at-requires
-part-at-requires c κs = search needs
-
-cut-length-requires : tie.Need-cut-length-requires
-cut-length-requires c κs = search needs
-
-add-number-at : tie.Need-add-number-at
-add-number-at c = search needs
-
-number-at-requires : tie.Need-number-at-requires
-number-at-requires c κs = search needs
-
-add-t9 : tie.Need-add-t9
-add-t9 c = search needs
-
-add-part-at-2 : tie.Need-add-part-at-2
-add-part-at-2 c = search needs
-
-part-at-requires-2 : tie.Need-part-at-requires-2
-part-at-requires-2 c κs = search needs
-
-cut-length-requires-2 : tie.Need-cut-length-requires-2
-cut-length-requires-2 c κs = search needs
-
-add-t13 : tie.Need-add-t13
-add-t13 c = search needs
-
-add-number-at-2 : tie.Need-add-number-at-2
-add-number-at-2 c = search needs
-
-number-at-requires-2 : tie.Need-number-at-requires-2
-number-at-requires-2 c κs = search needs
-
 returns : tie.Need-returns
-unfolding recordPlaces payloadLength
+unfolding recordPlaces
 returns c =
     let a = c .before .before .before .before .before .before .before .args in
     let user : c .before .before .before .before .cut-length .result ≡ length (cut (part (a .at + 2) 16 (a .file .now))) =
     c .before .before .before .before .cut-length .ensures ∙ ap (λ (t : Bytes). length (cut t)) (c .before .before .before .before .before .part-at .ensures) in
     let description : c .before .cut-length2 .result ≡ length (cut (part (a .at + 22) 32 (a .file .now))) =
     c .before .cut-length2 .ensures ∙ ap (λ (t : Bytes). length (cut t)) (c .before .before .part-at2 .ensures) in
-    let payload : c .number-at2 .result ≡ num (part 20 2 (drop (a .at) (a .file .now))) =
-    c .number-at2 .ensures .0 ∙ ap num (sym (part-drop (a .at) 20 2 (a .file .now))) in
-    cc
+    let payload : c .number-at2 .result ≡ payloadLength 2 (drop (a .at) (a .file .now)) = c .number-at2 .ensures .0 ∙ sym (length-at 2 (a .file .now) (a .at)) in
+    λ i. record {
+      «user_place» = a .at + 2;
+      «user_length» = user i;
+      «record_id» = c .before .before .before .number-at .ensures .0 i;
+      «description_place» = a .at + 22;
+      «description_length» = description i;
+      «payload_place» = a .at + 54;
+      «payload_length» = payload i;
+    }
 
 pub places-at-spec : {M : Type 1} → statement M
 places-at-spec =
     tie.close
     (tie.spec
-    add-t3
-    add-part-at
-    part-at-requires
-    cut-length-requires
-    add-number-at
-    number-at-requires
-    add-t9
-    add-part-at-2
-    part-at-requires-2
-    cut-length-requires-2
-    add-t13
-    add-number-at-2
-    number-at-requires-2
+    (λ c. search needs)
+    (λ c. search needs)
+    (λ c κs. tt)
+    (λ c κs. tt)
+    (λ c. search needs)
+    (λ c κs. tt)
+    (λ c. search needs)
+    (λ c. search needs)
+    (λ c κs. tt)
+    (λ c κs. tt)
+    (λ c. search needs)
+    (λ c. search needs)
+    (λ c κs. tt)
     returns)

@@ -23,27 +23,9 @@ opens c = agrees _ _ _ opening (c .before .same-bytes .ensures) (c .before .befo
 returns : tie.Need-returns
 returns c = sym (first-fails _ _ _ (inl (omega arith)))
 
-part-at-requires : tie.Need-part-at-requires
-part-at-requires c κs = search needs
-
-slice-aggregate-same-bytes : tie.Need-slice-aggregate-same-bytes
-slice-aggregate-same-bytes c = search needs
-
-same-bytes-requires : tie.Need-same-bytes-requires
-same-bytes-requires c κs = search needs
-
 returns-2 : tie.Need-returns-2
 returns-2 c =
     sym (first-fails _ _ _ (inr (inl (differs _ _ _ opening (c .before .same-bytes .ensures) (c .before .before .before .part-at .ensures) (not-true _ (c .if2 .taken))))))
-
-number-at-requires : tie.Need-number-at-requires
-number-at-requires c κs = search needs
-
-mul-if3 : tie.Need-mul-if3
-mul-if3 c = search needs
-
-add-if3 : tie.Need-add-if3
-add-if3 c = search needs
 
 returns-3 : tie.Need-returns-3
 unfolding keyCount
@@ -58,12 +40,12 @@ check-directory-spec =
     tie.close
     (tie.spec
     returns
-    part-at-requires
-    slice-aggregate-same-bytes
-    same-bytes-requires
+    (λ c κs. tt)
+    (λ c. search needs)
+    (λ c κs. tt)
     returns-2
-    number-at-requires
-    mul-if3
-    add-if3
+    (λ c κs. tt)
+    (λ c. search needs)
+    (λ c. search needs)
     returns-3
     returns-4)

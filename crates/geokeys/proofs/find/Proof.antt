@@ -15,33 +15,18 @@ use Rattle.geokeys.proofs.find.Tie as tie
 passed : (c : tie.After-enum-told) → fileVerdict (now (c .before .before .before .before .args .file)) ≡ Passes
 passed c = sym (c .before .before .check-file .ensures) ∙ c .enum-told .given .1
 
-check-file-requires : tie.Need-check-file-requires
-check-file-requires c κs = search needs
-
-enum-known-verdict : tie.Need-enum-known-verdict
-enum-known-verdict c = search needs
-
 returns : tie.Need-returns
 unfolding lookup
 returns c = sym (answer-fails _ _ _ (sym (c .before .before .before .check-file .ensures) ∙ c .before .verdict .given .1))
 
-enum-told : tie.Need-enum-told
-enum-told c = search needs
-
 find-projection-requires : tie.Need-find-projection-requires
 find-projection-requires c κs = passed c
-
-enum-known-found : tie.Need-enum-known-found
-enum-known-found c = search needs
 
 payload-at-requires : tie.Need-payload-at-requires
 payload-at-requires c κs = omega (arith, low-place _ _ (c .before .found .given .1) (c .before .before .before .find-projection .ensures .1))
 
 from-directory-requires : tie.Need-from-directory-requires
 from-directory-requires c κs = passed (c .before .before .before .before .before)
-
-enum-told-2 : tie.Need-enum-told-2
-enum-told-2 c = search needs
 
 returns-2 : tie.Need-returns-2
 unfolding lookup fromDirectory
@@ -63,14 +48,14 @@ pub find-spec : {M : Type 1} → statement M
 find-spec =
     tie.close
     (tie.spec
-    check-file-requires
-    enum-known-verdict
+    (λ c κs. tt)
+    (λ c. search needs)
     returns
-    enum-told
+    (λ c. search needs)
     find-projection-requires
-    enum-known-found
+    (λ c. search needs)
     payload-at-requires
     from-directory-requires
-    enum-told-2
+    (λ c. search needs)
     returns-2
     returns-3)

@@ -5,7 +5,6 @@ use mathlib.Core.Bool.{Bool}
 use mathlib.Core.List.{_∷_}
 use Prim.Native.Nat.{ℕ, zero, suc, _+_, _*_, _-_, _≤_, _<_}
 use native.Mathlib.Omega.{arith}
-use borrow.Author.Needs.{needs}
 use borrow.Author.Tests.{eq-eqb, ne-eqb}
 use lib.ListN.{drop}
 use lib.Dec.{eqb}
@@ -62,14 +61,8 @@ Inv-loop directory key at₀ left₀ at left = Searching directory key left at
 abbrev μ-loop : tie.MeasureT-loop
 μ-loop directory key at₀ left₀ at left = left
 
-number-at-requires : tie.Need-number-at-requires Inv-loop μ-loop
-number-at-requires c κs = search needs
-
 loop-holds : tie.Need-loop-holds Inv-loop μ-loop
 loop-holds c = begin _ _ _ (c .number-at .ensures .0) (c .number-at .ensures .1)
-
-number-at-requires-2 : tie.Need-number-at-requires-2 Inv-loop μ-loop
-number-at-requires-2 c κs = search needs
 
 returns : tie.Need-returns Inv-loop μ-loop
 returns c =
@@ -101,9 +94,9 @@ find-entry-spec =
     (tie.spec
     Inv-loop
     μ-loop
-    number-at-requires
+    (λ c κs. tt)
     loop-holds
-    number-at-requires-2
+    (λ c κs. tt)
     returns
     add-at
     sub-left

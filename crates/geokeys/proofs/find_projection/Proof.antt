@@ -4,14 +4,13 @@ use mathlib.Core.Path.{_≡_, sym, ap, _∙_}
 use mathlib.Core.Bool.{true, false}
 use Prim.Native.Nat.{ℕ, zero, suc, _+_, _-_, _≤_, _<_, _^_}
 use native.Mathlib.Omega.{arith}
-use borrow.Author.Needs.{needs}
 use denote.Ref.{now}
 use mathlib.Core.List.{_∷_}
 use lib.ListN.{drop}
-use Rattle.fields.specs.Bytes.{Bytes, AllBytes, part, num}
+use Rattle.fields.specs.Bytes.{Bytes, AllBytes}
 use Rattle.fields.specs.declared.Verdict.the-variants.{Passes}
 use Rattle.records.specs.Records.{places, sizeOf}
-use Rattle.records.proofs.RecordLaws.{size-is}
+use Rattle.records.proofs.RecordLaws.{places-none, places-step}
 use Rattle.headerfields.specs.HeaderFields.{headerSize, recordCount}
 use Rattle.lasfile.specs.FileChecks.{fileVerdict}
 use Rattle.lasfile.proofs.Walking.{Walking, begin, one-more, low-place, onwards}
@@ -27,14 +26,16 @@ record Searching (s : Bytes) (id left at : ℕ) : Type 0 where
   same : projectionPlace s id ≡ first (isProjection s id) (places 2 left at s)
   walking : Walking s left at
 
-start : (s : Bytes) (id left at : ℕ) → AllBytes s → fileVerdict s ≡ Passes → at ≡ num (part 94 2 s) → left ≡ num (part 100 4 s) → Searching s id left at
-unfolding headerSize recordCount projectionPlace
+start : (s : Bytes) (id left at : ℕ) → AllBytes s → fileVerdict s ≡ Passes → at ≡ headerSize s → left ≡ recordCount s → Searching s id left at
+unfolding projectionPlace
 start s id left at bytes passes a l = record { same = rw (a, l); walking = rw (a, l) (begin s bytes passes) }
 
 module _ (s : Bytes) (id left at : ℕ) (more : 0 < left) (inv : Searching s id left at) where
   in-two : projectionPlace s id ≡ first (isProjection s id) (at ∷ places 2 (left - 1) (at + sizeOf 2 (drop at s)) s)
-  unfolding places
-  in-two = inv .same ∙ ap (λ (n : ℕ). first (isProjection s id) (places 2 n at s)) (one-more s left at more (inv .walking))
+  in-two =
+      inv .same
+      ∙ ap (λ (n : ℕ). first (isProjection s id) (places 2 n at s)) (one-more s left at more (inv .walking))
+      ∙ ap (first (isProjection s id)) (places-step 2 (left - 1) at s)
 
   low-enough : at + 54 < 2 ^ 32
   low-enough = low-place s left at more (inv .walking)
@@ -43,14 +44,14 @@ module _ (s : Bytes) (id left at : ℕ) (more : 0 < left) (inv : Searching s id 
   unfolding placeIn
   found e = sym (in-two ∙ first-here (isProjection s id) at _ e)
 
-  next : (n : ℕ) → n ≡ num (part (at + 20) 2 s) → isProjection s id at ≡ false → Searching s id (left - 1) (at + (54 + n))
-  next n e other =
-      rw (size-is s at n e)
+  next : (size : ℕ) → size ≡ sizeOf 2 (drop at s) → isProjection s id at ≡ false → Searching s id (left - 1) (at + size)
+  next size e other =
+      rw e
       record { same = in-two ∙ first-later (isProjection s id) at _ other; walking = onwards s left at more (inv .walking) }
 
 ended : (s : Bytes) (id left at : ℕ) → left ≤ 0 → Searching s id left at → placeIn Nothing ≡ projectionPlace s id
-unfolding placeIn places
-ended s id zero at h inv = sym (inv .same ∙ first-none (isProjection s id))
+unfolding placeIn
+ended s id zero at h inv = sym (inv .same ∙ ap (first (isProjection s id)) (places-none 2 at s) ∙ first-none (isProjection s id))
 ended s id (suc left) at h inv = absurd (omega arith)
 
 abbrev Inv-loop : tie.InvT-loop
@@ -59,15 +60,9 @@ Inv-loop file id at₀ left₀ at left = Searching file id left at
 abbrev μ-loop : tie.MeasureT-loop
 μ-loop file id at₀ left₀ at left = left
 
-number-at-requires : tie.Need-number-at-requires Inv-loop μ-loop
-number-at-requires c κs = search needs
-
-number-at-requires-2 : tie.Need-number-at-requires-2 Inv-loop μ-loop
-number-at-requires-2 c κs = search needs
-
 loop-holds : tie.Need-loop-holds Inv-loop μ-loop
 loop-holds c =
-    start _ _ _ _ (λ i. omega (arith, c .before .before .shared-slice-known .given i)) (c .before .before .before .pre) (c .before .number-at .ensures .0) (c .number-at2 .ensures .0)
+    start _ _ _ _ (λ i. omega (arith, c .before .before .shared-slice-known .given i)) (c .before .before .before .pre) (c .before .header-size .ensures .0) (c .record-count .ensures .0)
 
 is-projection-requires : tie.Need-is-projection-requires Inv-loop μ-loop
 is-projection-requires c κs =
@@ -81,19 +76,8 @@ returns c =
       omega (arith, low-enough _ _ (l .left) (l .at) (omega arith) (l .inv)),
     )
 
-add-number-at : tie.Need-add-number-at Inv-loop μ-loop
-add-number-at c =
-    let l = c .before .before .before .loop in
-    omega (arith, low-enough _ _ (l .left) (l .at) (omega arith) (l .inv))
-
-number-at-requires-3 : tie.Need-number-at-requires-3 Inv-loop μ-loop
-number-at-requires-3 c κs = search needs
-
 add-at : tie.Need-add-at Inv-loop μ-loop
-add-at c = omega arith
-
-add-at-2 : tie.Need-add-at-2 Inv-loop μ-loop
-add-at-2 c =
+add-at c =
     let l = c .before .before .before .before .loop in
     omega (arith, low-enough _ _ (l .left) (l .at) (omega arith) (l .inv))
 
@@ -106,7 +90,7 @@ loop-less c = omega arith
 loop-again : tie.Need-loop-again Inv-loop μ-loop
 loop-again c =
     let l = c .before .before .before .before .loop in
-    next _ _ (l .left) (l .at) (omega arith) (l .inv) _ (c .number-at3 .ensures .0) (sym (c .before .before .is-projection .ensures) ∙ c .before .if1 .left)
+    next _ _ (l .left) (l .at) (omega arith) (l .inv) _ (c .size-at .ensures .0) (sym (c .before .before .is-projection .ensures) ∙ c .before .if1 .left)
 
 returns-2 : tie.Need-returns-2 Inv-loop μ-loop
 returns-2 c =
@@ -119,15 +103,13 @@ find-projection-spec =
     (tie.spec
     Inv-loop
     μ-loop
-    number-at-requires
-    number-at-requires-2
+    (λ c κs. tt)
+    (λ c κs. tt)
     loop-holds
     is-projection-requires
     returns
-    add-number-at
-    number-at-requires-3
+    (λ c κs. tt)
     add-at
-    add-at-2
     sub-left
     loop-less
     loop-again

@@ -14,32 +14,8 @@ use Rattle.geokeys.proofs.from_directory.Tie as tie
 passed : (c : tie.After-enum-told) → firstFailing (directoryChecks (now (c .before .before .before .before .before .args .directory))) ≡ Passes
 passed c = sym (c .before .before .check-directory .ensures) ∙ c .enum-told .given .1
 
-check-directory-requires : tie.Need-check-directory-requires
-check-directory-requires c κs = search needs
-
-enum-known-verdict : tie.Need-enum-known-verdict
-enum-known-verdict c = search needs
-
 returns : tie.Need-returns
 returns c = sym (answer-fails _ _ _ (sym (c .before .before .before .check-directory .ensures) ∙ c .before .verdict .given .1))
-
-enum-told : tie.Need-enum-told
-enum-told c = search needs
-
-find-entry-requires : tie.Need-find-entry-requires
-find-entry-requires c κs = search needs
-
-enum-known-found : tie.Need-enum-known-found
-enum-known-found c = search needs
-
-part-at-requires : tie.Need-part-at-requires
-part-at-requires c κs = search needs
-
-from-entry-requires : tie.Need-from-entry-requires
-from-entry-requires c κs = search needs
-
-enum-told-2 : tie.Need-enum-told-2
-enum-told-2 c = search needs
 
 returns-2 : tie.Need-returns-2
 returns-2 c =
@@ -60,14 +36,14 @@ pub from-directory-spec : {M : Type 1} → statement M
 from-directory-spec =
     tie.close
     (tie.spec
-    check-directory-requires
-    enum-known-verdict
+    (λ c κs. tt)
+    (λ c. search needs)
     returns
-    enum-told
-    find-entry-requires
-    enum-known-found
-    part-at-requires
-    from-entry-requires
-    enum-told-2
+    (λ c. search needs)
+    (λ c κs. tt)
+    (λ c. search needs)
+    (λ c κs. tt)
+    (λ c κs. search needs)
+    (λ c. search needs)
     returns-2
     returns-3)

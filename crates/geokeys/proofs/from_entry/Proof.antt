@@ -65,12 +65,6 @@ is-known c = ap known (sym (location-is (c .before))) ∙ not-false _ (c .if1 .l
 is-counted : (c : tie.Else2) → counted (locationOf (now (c .before .before .before .before .before .before .args .entry))) (countOf (now (c .before .before .before .before .before .before .args .entry))) ≡ true
 is-counted c = rw (← location-is (c .before .before), ← count-is (c .before .before)) (not-false _ (c .if2 .left))
 
-number-at-requires : tie.Need-number-at-requires
-number-at-requires c κs = search needs
-
-number-at-requires-2 : tie.Need-number-at-requires-2
-number-at-requires-2 c κs = search needs
-
 returns : tie.Need-returns
 returns c = sym (refused-43 _ _ (ap known (sym (location-is (c .before))) ∙ not-true _ (c .if1 .taken)))
 
@@ -78,29 +72,17 @@ returns-2 : tie.Need-returns-2
 returns-2 c =
     sym (refused-44 _ _ (is-known (c .before)) (rw (← location-is (c .before .before), ← count-is (c .before .before)) (not-true _ (c .if2 .taken))))
 
-number-at-requires-3 : tie.Need-number-at-requires-3
-number-at-requires-3 c κs = search needs
-
 returns-3 : tie.Need-returns-3
 unfolding offsetOf
 returns-3 c =
     ap Value (c .number-at3 .ensures .0)
     ∙ sym (value _ _ (is-known (c .before .before .before)) (is-counted (c .before .before)) (sym (location-is (c .before .before .before .before)) ∙ c .before .if3 .taken))
 
-find-projection-requires : tie.Need-find-projection-requires
-find-projection-requires c κs = search needs
-
-enum-known-found : tie.Need-enum-known-found
-enum-known-found c = search needs
-
 payload-at-requires : tie.Need-payload-at-requires
 payload-at-requires c κs = omega (arith, low-place _ _ (c .before .found .given .1) (c .before .before .before .find-projection .ensures .1))
 
 in-payload-requires : tie.Need-in-payload-requires
 in-payload-requires c κs = low-place _ _ (c .before .before .found .given .1) (c .before .before .before .before .find-projection .ensures .1)
-
-enum-told : tie.Need-enum-told
-enum-told c = search needs
 
 -- where the location is another than 0
 searched : (c : tie.Else3)
@@ -132,16 +114,16 @@ pub from-entry-spec : {M : Type 1} → statement M
 from-entry-spec =
     tie.close
     (tie.spec
-    number-at-requires
-    number-at-requires-2
+    (λ c κs. tt)
+    (λ c κs. tt)
     returns
     returns-2
-    number-at-requires-3
+    (λ c κs. tt)
     returns-3
-    find-projection-requires
-    enum-known-found
+    (λ c κs. search needs)
+    (λ c. search needs)
     payload-at-requires
     in-payload-requires
-    enum-told
+    (λ c. search needs)
     returns-4
     returns-5)

@@ -16,21 +16,6 @@ use borrow.Author.Needs.{needs}
 use Rattle.geokeys.proofs.in_payload.Statement.{statement}
 use Rattle.geokeys.proofs.in_payload.Tie as tie
 
-number-at-requires : tie.Need-number-at-requires
-number-at-requires c κs = search needs
-
-number-at-requires-2 : tie.Need-number-at-requires-2
-number-at-requires-2 c κs = search needs
-
-number-at-requires-3 : tie.Need-number-at-requires-3
-number-at-requires-3 c κs = search needs
-
-mul-if2 : tie.Need-mul-if2
-mul-if2 c = search needs
-
-add-if2 : tie.Need-add-if2
-add-if2 c = search needs
-
 -- the answer by the place, in its four cases
 module _ (e p : Bytes) (at : ℕ) where
   abbrev answer : GeoKey
@@ -56,30 +41,15 @@ returns : tie.Need-returns
 unfolding locationOf offsetOf
 returns c = sym (double-short _ _ _ (omega arith) (omega arith))
 
-mul-number-at : tie.Need-mul-number-at
-mul-number-at c = search needs
-
-number-at-requires-4 : tie.Need-number-at-requires-4
-number-at-requires-4 c κs = search needs
-
 returns-2 : tie.Need-returns-2
 unfolding locationOf offsetOf
 returns-2 c =
     let p = now (c .before .before .before .before .before .before .before .before .args .parameters) in
     ap Double (c .number-at4 .ensures .0 ∙ ap (λ (k : ℕ). num (part (8 * k) 8 p)) (c .before .before .before .before .number-at2 .ensures .0)) ∙ sym (double-good _ p _ (omega arith) (omega arith))
 
-add-if3 : tie.Need-add-if3
-add-if3 c = search needs
-
 returns-3 : tie.Need-returns-3
 unfolding locationOf offsetOf countOf
 returns-3 c = sym (text-short _ _ _ (λ e. c .before .if1 .left (c .before .before .number-at3 .ensures .0 ∙ e)) (omega arith))
-
-add-t13 : tie.Need-add-t13
-add-t13 c = search needs
-
-add-t14 : tie.Need-add-t14
-add-t14 c = search needs
 
 returns-4 : tie.Need-returns-4
 unfolding locationOf offsetOf countOf
@@ -91,17 +61,17 @@ pub in-payload-spec : {M : Type 1} → statement M
 in-payload-spec =
     tie.close
     (tie.spec
-    number-at-requires
-    number-at-requires-2
-    number-at-requires-3
-    mul-if2
-    add-if2
+    (λ c κs. tt)
+    (λ c κs. tt)
+    (λ c κs. tt)
+    (λ c. search needs)
+    (λ c. search needs)
     returns
-    mul-number-at
-    number-at-requires-4
+    (λ c. search needs)
+    (λ c κs. tt)
     returns-2
-    add-if3
+    (λ c. search needs)
     returns-3
-    add-t13
-    add-t14
+    (λ c. search needs)
+    (λ c. search needs)
     returns-4)

@@ -5,12 +5,6 @@ use borrow.Author.Needs.{needs}
 use Rattle.header.proofs.read_header.Statement.{statement}
 use Rattle.header.proofs.read_header.Tie as tie
 
-enum-known-n : tie.Need-enum-known-n
-enum-known-n c = search needs
-
-enum-told : tie.Need-enum-told
-enum-told c = search needs
-
 returns : tie.Need-returns
 unfolding headerRead fieldsIf
 returns c = sym (rw (sym (c .before .before .before .check-file .ensures) ∙ c .before .n .given .1))
@@ -22,4 +16,4 @@ returns-2 c =
     sym (rw (passes, c .header-of .ensures))
 
 pub read-header-spec : {M : Type 1} → statement M
-read-header-spec = tie.close (tie.spec (λ c κs. tt) enum-known-n returns enum-told (λ c κs. tt) returns-2)
+read-header-spec = tie.close (tie.spec (λ c κs. tt) (λ c. search needs) returns (λ c. search needs) (λ c κs. tt) returns-2)

@@ -15,7 +15,7 @@ use Rattle.fields.proofs.CheckLaws.{first-fails, all-clear, then-passes, then-f
 use Rattle.points.specs.declared.Decoded.the-variants.{Fields}
 use Rattle.points.specs.Points.{pointOf, decoded}
 use Rattle.points.proofs.AnswerLaws.{decodes}
-use Rattle.headerfields.specs.HeaderFields.{pointOffset, pointCount, recordLength, format}
+use Rattle.headerfields.specs.HeaderFields.{pointCount, recordLength, format}
 use Rattle.lasfile.specs.FileChecks.{fileVerdict}
 use Rattle.onepoint.specs.OnePoint.{pointChecks, pointPlace, pointIf, pointAtOf}
 use Rattle.onepoint.specs.declared.PointAt.the-variants.{At, Refused}
@@ -63,81 +63,40 @@ passes-at : (c : tie.After-enum-told) → fileVerdict (now (c .before .before .b
 passes-at c = sym (c .before .before .check-file .ensures) ∙ c .enum-told .given .1
 
 below-at : (c : tie.Else1) → c .before .before .before .before .before .before .args .index < pointCount (now (c .before .before .before .before .before .before .args .file))
-unfolding pointCount
 below-at c = omega arith
 
 -- what was decoded, over the file
 result-is : (c : tie.After-decode)
     → c .decode .result
     ≡ Fields (pointOf (format (now (c .before .before .before .before .before .before .before .before .before .before .before .args .file))) (part (pointPlace (now (c .before .before .before .before .before .before .before .before .before .before .before .args .file)) (c .before .before .before .before .before .before .before .before .before .before .before .args .index)) (recordLength (now (c .before .before .before .before .before .before .before .before .before .before .before .args .file))) (now (c .before .before .before .before .before .before .before .before .before .before .before .args .file))))
-unfolding pointPlace pointOffset recordLength format
+unfolding pointPlace
 result-is c =
     let s = now (c .before .before .before .before .before .before .before .before .before .before .before .args .file) in
     c .decode .ensures
-    ∙ rw (c .before .part-at .ensures, c .before .before .number-at4 .ensures .0, c .before .before .before .number-at3 .ensures .0, c .before .before .before .before .number-at2 .ensures .0)
+    ∙ rw (c .before .part-at .ensures, c .before .before .format .ensures .0, c .before .before .before .point-offset .ensures .0, c .before .before .before .before .record-length .ensures .0)
     (decoded-here s (c .before .before .before .before .before .before .before .before .before .before .before .args .index) (passes-at (c .before .before .before .before .before .before .before)) (below-at (c .before .before .before .before .before)))
-
-check-file-requires : tie.Need-check-file-requires
-check-file-requires c κs = search needs
-
-enum-known-verdict : tie.Need-enum-known-verdict
-enum-known-verdict c = search needs
 
 returns : tie.Need-returns
 returns c = sym (refused-by-file _ _ _ (sym (c .before .before .before .check-file .ensures) ∙ c .before .verdict .given .1))
 
-enum-told : tie.Need-enum-told
-enum-told c = search needs
-
-number-at-requires : tie.Need-number-at-requires
-number-at-requires c κs = search needs
-
 returns-2 : tie.Need-returns-2
-unfolding pointCount
 returns-2 c = sym (refused-11 _ _ (passes-at (c .before .before)) (omega arith))
 
-number-at-requires-2 : tie.Need-number-at-requires-2
-number-at-requires-2 c κs = search needs
-
-number-at-requires-3 : tie.Need-number-at-requires-3
-number-at-requires-3 c κs = search needs
-
 mul-place : tie.Need-mul-place
-mul-place c = omega (arith, product-small (c .before .before .before .before .before .before .before .before .args .index) (c .before .number-at2 .result) (omega arith) (omega arith))
+mul-place c = omega (arith, product-small (c .before .before .before .before .before .before .before .before .args .index) (c .before .record-length .result) (omega arith) (omega arith))
 
 add-place : tie.Need-add-place
-add-place c = omega (arith, product-small (c .before .before .before .before .before .before .before .before .args .index) (c .before .number-at2 .result) (omega arith) (omega arith))
-
-number-at-requires-4 : tie.Need-number-at-requires-4
-number-at-requires-4 c κs = search needs
-
-cast-format : tie.Need-cast-format
-cast-format c = search needs
-
-cast-decode : tie.Need-cast-decode
-cast-decode c = search needs
-
-part-at-requires : tie.Need-part-at-requires
-part-at-requires c κs = search needs
-
-decode-requires : tie.Need-decode-requires
-decode-requires c κs = search needs
-
-enum-known-decoded : tie.Need-enum-known-decoded
-enum-known-decoded c = search needs
-
-enum-known-decoded-2 : tie.Need-enum-known-decoded-2
-enum-known-decoded-2 c = search needs
+add-place c = omega (arith, product-small (c .before .before .before .before .before .before .before .before .args .index) (c .before .record-length .result) (omega arith) (omega arith))
 
 returns-3 : tie.Need-returns-3
-unfolding pointPlace pointOffset recordLength
+unfolding pointPlace
 returns-3 c =
     let s = now (c .before .before .before .before .before .before .before .before .before .before .before .before .before .before .args .file) in
     let answer = answered s (c .before .before .before .before .before .before .before .before .before .before .before .before .before .before .args .index) (passes-at (c .before .before .before .before .before .before .before .before .before .before)) (below-at (c .before .before .before .before .before .before .before .before)) in
     let result = result-is (c .before .before .before) in
     let told = c .before .decoded .given .1 in
-    let place = c .before .before .before .before .before .before .number-at3 .ensures .0 in
-    let length = c .before .before .before .before .before .before .before .number-at2 .ensures .0 in
+    let place = c .before .before .before .before .before .before .point-offset .ensures .0 in
+    let length = c .before .before .before .before .before .before .before .record-length .ensures .0 in
     cc
 
 returns-4 : tie.Need-returns-4
@@ -151,22 +110,21 @@ pub point-at-spec : {M : Type 1} → statement M
 point-at-spec =
     tie.close
     (tie.spec
-    check-file-requires
-    enum-known-verdict
+    (λ c κs. tt)
+    (λ c. search needs)
     returns
-    enum-told
-    number-at-requires
+    (λ c. search needs)
+    (λ c κs. tt)
     returns-2
-    number-at-requires-2
-    number-at-requires-3
+    (λ c κs. tt)
+    (λ c κs. tt)
     mul-place
     add-place
-    number-at-requires-4
-    cast-format
-    cast-decode
-    part-at-requires
-    decode-requires
-    enum-known-decoded
-    enum-known-decoded-2
+    (λ c κs. tt)
+    (λ c. search needs)
+    (λ c κs. tt)
+    (λ c κs. tt)
+    (λ c. search needs)
+    (λ c. search needs)
     returns-3
     returns-4)

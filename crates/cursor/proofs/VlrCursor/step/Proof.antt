@@ -11,8 +11,9 @@ use lib.ListN.{drop}
 use Rattle.fields.specs.Bytes.{Bytes}
 use Rattle.fields.specs.declared.Verdict.the-variants.{Passes}
 use Rattle.records.specs.Records.{walkEnd, sizeOf}
+use Rattle.records.proofs.FieldLaws.{size-of}
 use Rattle.records.proofs.RecordLaws.{walkEnd-one, front-in-size}
-use Rattle.headerfields.specs.HeaderFields.{headerSize, pointOffset, recordCount}
+use Rattle.headerfields.specs.HeaderFields.{pointOffset, recordCount}
 use Rattle.lasfile.specs.FileChecks.{fileVerdict}
 use Rattle.cursor.specs.Steps.{recordPlaces, nextCursor}
 use Rattle.cursor.specs.declared.RecordPlaces.{RecordPlaces}
@@ -30,8 +31,7 @@ passed c = sym (c .before .before .check-file .ensures) ∙ c .enum-told .given 
 -- what walking one record says
 ends : (c : tie.After-records-fit) → c .records-fit .result
     ≡ leb (c .before .before .before .before .before .before .before .before .before .before .args .self .position + sizeOf 2 (drop (c .before .before .before .before .before .before .before .before .before .before .args .self .position) (now (c .before .before .before .before .before .before .before .before .before .before .args .file)))) (pointOffset (now (c .before .before .before .before .before .before .before .before .before .before .args .file)))
-unfolding pointOffset
-ends c = c .records-fit .ensures ∙ rw (walkEnd-one 2 _ _, c .before .number-at3 .ensures .0)
+ends c = c .records-fit .ensures ∙ rw (walkEnd-one 2 _ _, c .before .point-offset .ensures .0)
 
 ends-by : (c : tie.Else3)
     → c .before .before .before .before .before .before .before .before .before .before .before .args .self .position + sizeOf 2 (drop (c .before .before .before .before .before .before .before .before .before .before .before .args .self .position) (now (c .before .before .before .before .before .before .before .before .before .before .before .args .file))) ≤ pointOffset (now (c .before .before .before .before .before .before .before .before .before .before .before .args .file))
@@ -39,8 +39,8 @@ ends-by c = leb-true _ _ (sym (ends (c .before)) ∙ not-false _ (c .if3 .left))
 
 -- the place after a record, by its payload
 next-place : (s : Bytes) (at : ℕ) (r : RecordPlaces) → r ≡ recordPlaces s at → r .«payload_place» + r .«payload_length» ≡ at + sizeOf 2 (drop at s)
-unfolding recordPlaces sizeOf
-next-place s at r e = rw e (omega arith)
+unfolding recordPlaces
+next-place s at r e = rw e (omega (arith, size-of 2 (drop at s)))
 
 -- a record and the place after it are what is answered
 found : (s : Bytes) (index at : ℕ) (r : RecordPlaces) (next : ℕ) → r ≡ recordPlaces s at → next ≡ at + sizeOf 2 (drop at s)
@@ -51,58 +51,30 @@ found s index at r next e f = rw (e, f)
 index-below : (s : Bytes) (index : ℕ) → index < recordCount s → T (ltb index (recordCount s))
 index-below s index h = subst T (sym (lt-ltb index (recordCount s) h)) tt
 
-check-file-requires : tie.Need-check-file-requires
-check-file-requires c κs = search needs
-
-enum-known-verdict : tie.Need-enum-known-verdict
-enum-known-verdict c = search needs
-
 returns : tie.Need-returns
 returns c = sym (refused-by-file _ _ _ _ (sym (c .before .before .before .check-file .ensures) ∙ c .before .verdict .given .1))
 
-enum-told : tie.Need-enum-told
-enum-told c = search needs
-
-number-at-requires : tie.Need-number-at-requires
-number-at-requires c κs = search needs
-
 returns-2 : tie.Need-returns-2
-unfolding recordCount
 returns-2 c =
     let a = c .before .before .before .before .before .before .args in
     sym (refused-18 _ _ _ (passed (c .before .before)) (inl (le-ltb (a .self .index) (recordCount (now (a .file))) (omega arith))))
 
-number-at-requires-2 : tie.Need-number-at-requires-2
-number-at-requires-2 c κs = search needs
-
 returns-3 : tie.Need-returns-3
-unfolding headerSize
 returns-3 c = sym (refused-18 _ _ _ (passed (c .before .before .before .before)) (inr (inl (omega arith))))
-
-number-at-requires-3 : tie.Need-number-at-requires-3
-number-at-requires-3 c κs = search needs
-
-records-fit-requires : tie.Need-records-fit-requires
-records-fit-requires c κs = search needs
 
 returns-4 : tie.Need-returns-4
 returns-4 c = sym (refused-18 _ _ _ (passed (c .before .before .before .before .before .before .before)) (inr (inr (leb-false _ _ (sym (ends (c .before)) ∙ not-true _ (c .if3 .taken))))))
 
 places-at-requires : tie.Need-places-at-requires
-unfolding pointOffset
 places-at-requires c κs =
     let a = c .before .before .before .before .before .before .before .before .before .before .before .args in
-    omega (arith, ends-by c, front-in-size 2 (drop (a .self .position) (now (a .file))), c .before .before .number-at3 .ensures)
+    omega (arith, ends-by c, front-in-size 2 (drop (a .self .position) (now (a .file))), c .before .before .point-offset .ensures)
 
 add-next : tie.Need-add-next
-unfolding pointOffset recordPlaces sizeOf
-add-next c = rw (c .before .places-at .ensures) (omega (arith, ends-by (c .before .before), c .before .before .before .before .number-at3 .ensures))
-
-add-t10 : tie.Need-add-t10
-add-t10 c = search needs
+add-next c =
+    omega (arith, next-place _ _ _ (c .before .places-at .ensures), ends-by (c .before .before), c .before .before .before .before .point-offset .ensures)
 
 returns-5 : tie.Need-returns-5
-unfolding recordCount headerSize
 returns-5 c =
     let a = c .before .before .before .before .before .before .before .before .before .before .before .before .before .args in
     let places = c .before .places-at .ensures in
@@ -114,18 +86,18 @@ pub step-spec : {M : Type 1} → statement M
 step-spec =
     tie.close
     (tie.spec
-    check-file-requires
-    enum-known-verdict
+    (λ c κs. tt)
+    (λ c. search needs)
     returns
-    enum-told
-    number-at-requires
+    (λ c. search needs)
+    (λ c κs. tt)
     returns-2
-    number-at-requires-2
+    (λ c κs. tt)
     returns-3
-    number-at-requires-3
-    records-fit-requires
+    (λ c κs. tt)
+    (λ c κs. tt)
     returns-4
     places-at-requires
     add-next
-    add-t10
+    (λ c. search needs)
     returns-5)
