@@ -8,7 +8,7 @@ use lib.Seq.{sets}
 use Rattle.fields.specs.Bytes.{Bytes, join, zeros}
 use Rattle.records.specs.Records.{recordsBytes}
 use Rattle.scaling.specs.Scaling.{scalingOf}
-use Rattle.headerfields.specs.HeaderFields.{headerBlock, pointOffset, pointCount, recordLength}
+use Rattle.headerfields.specs.HeaderFields.{headerBlock, pointOffset, format, recordLength, pointCount}
 use Rattle.pointruns.specs.PointRuns.{pointsOf}
 use Rattle.publicpart.specs.Public.{publicOf}
 use Rattle.tally.specs.declared.Tally.{Tally}
@@ -20,7 +20,7 @@ use Rattle.keptpoints.specs.KeptPoints.{keptPoints}
 
 -- the bytes of the points of a file that a table keeps
 unfoldable pub pointsBytes : List Bool → Bytes → Bytes
-pointsBytes table s = join (keptPoints table (pointCount s) (recordLength s) (drop (pointOffset s) s))
+pointsBytes table s = join (keptPoints table (format s) (pointCount s) (recordLength s) (drop (pointOffset s) s))
 
 -- from a place on the kept points, and zeros behind them to the end
 unfoldable pub withPoints : List Bool → Bytes → ℕ → Bytes → Bytes

@@ -5,21 +5,22 @@ ghost use Rattle.headerfields.specs.HeaderFields.{recordLength};
 ghost use Rattle.pointruns.specs.PointRuns.{pointsOf};
 ghost use Rattle.tally.specs.Tally.{tallyOf};
 ghost use Rattle.assembly.specs.Assembly.{withPoints, totalsOf, withHead, written};
-use fields::numbers::number_at;
 use heads::Totals;
 
-// Lends the output from the new point offset `start` on to the copier of the kept points, which zeros the rest. An output that does not reach it is left as it is.
-fn put_points(file: &[u8], table: [bool; 256], start: usize, out: &mut [u8])
-    ensures { λ _. ⌜ now (out .exit) ≡ withPoints table (now (file .entry)) start (now (out .entry)) ⌝ }
+// Lends the output from the new point offset `start` on to the point copier, which zeros the rest. An output that does not reach it is left as it is.
+fn put_points(file: &[u8], table: &[bool; 256], start: usize, out: &mut [u8])
+    ensures { λ _. ⌜ now (out .exit) ≡ withPoints (now (table .entry)) (now (file .entry)) start (now (out .entry)) ⌝ }
 {
     if out.len() < start {
         return;
     }
-    let offset = number_at(file, 96, 4) as usize;
-    let record_length = number_at(file, 105, 2) as usize;
-    let count = number_at(file, 107, 4) as usize;
-    keptpoints::copy_points(
+    let offset = headerfields::point_offset(file);
+    let format = headerfields::format(file);
+    let record_length = headerfields::record_length(file);
+    let count = headerfields::point_count(file);
+    pointcopier::copy_points(
         runs::part_at(file, offset, file.len()),
+        format,
         record_length,
         count,
         table,
@@ -31,7 +32,7 @@ fn put_points(file: &[u8], table: [bool; 256], start: usize, out: &mut [u8])
 fn totals_of(file: &[u8], points: usize, records: usize, start: usize, out: &[u8]) -> Totals
     ensures { λ r. ⌜ r ≡ totalsOf (now (file .entry)) (tallyOf (pointsOf points (recordLength (now (file .entry))) (drop start (now (out .entry))))) records start ⌝ }
 {
-    let record_length = number_at(file, 105, 2) as usize;
+    let record_length = headerfields::record_length(file);
     let run = runs::part_at(out, start, out.len());
     let tally = tally::tally_points(run, record_length, points);
     let bins = tally.bins;
@@ -58,13 +59,13 @@ fn put_header(file: &[u8], points: usize, records: usize, start: usize, out: &mu
 pub fn write(
     file: &[u8],
     sheet: &[u8],
-    table: [bool; 256],
+    table: &[bool; 256],
     points: usize,
     records: usize,
     start: usize,
     out: &mut [u8],
 )
-    ensures { λ _. ⌜ now (out .exit) ≡ written (now (sheet .entry)) (now (file .entry)) table points records start (now (out .entry)) ⌝ }
+    ensures { λ _. ⌜ now (out .exit) ≡ written (now (sheet .entry)) (now (file .entry)) (now (table .entry)) points records start (now (out .entry)) ⌝ }
 {
     keptrecords::copy_records(file, sheet, out);
     put_points(file, table, start, out);

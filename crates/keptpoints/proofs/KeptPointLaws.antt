@@ -9,13 +9,14 @@ use Rattle.fields.specs.Lists.{kept}
 use Rattle.fields.specs.Bytes.{Bytes, pieces}
 use Rattle.pointruns.specs.PointRuns.{inRun}
 use Rattle.pointruns.proofs.RunLaws.{Held, points-held, points-none}
-use Rattle.keptpoints.specs.KeptPoints.{inTable, keptPoints}
+use Rattle.classes.specs.Classes.{inTable}
+use Rattle.keptpoints.specs.KeptPoints.{keptPoints}
 
-pub kept-held : (table : List Bool) (count len : ℕ) (run : Bytes) → Held count len (length run)
-    → keptPoints table count len run ≡ kept (inTable table) (pieces count len run)
+pub kept-held : (table : List Bool) (f count len : ℕ) (run : Bytes) → Held count len (length run)
+    → keptPoints table f count len run ≡ kept (inTable table f) (pieces count len run)
 unfolding keptPoints
-kept-held table count len run h = rw (points-held count len run h)
+kept-held table f count len run h = rw (points-held count len run h)
 
-pub kept-none : (table : List Bool) (count len : ℕ) (run : Bytes) → inRun count len (length run) ≡ false → keptPoints table count len run ≡ []
+pub kept-none : (table : List Bool) (f count len : ℕ) (run : Bytes) → inRun count len (length run) ≡ false → keptPoints table f count len run ≡ []
 unfolding keptPoints kept
-kept-none table count len run e = rw (points-none count len run e)
+kept-none table f count len run e = rw (points-none count len run e)

@@ -1,3 +1,2 @@
 pub mod KeptPointLaws
-mod FrontLaws
-mod LoopLaws
+pub mod LoopLaws

@@ -12,7 +12,6 @@ use Rattle.fields.specs.Bytes.{Bytes, AllBytes, zeros, join, pieces}
 use Rattle.fields.specs.declared.Verdict.the-variants.{Passes}
 use Rattle.fields.proofs.ByteLaws.{num-part-lt, pieces-bytes, pieces-back, length-join-pieces}
 use Rattle.fields.proofs.ListLaws.{kept-same}
-use Rattle.formats.specs.Formats.{classOf}
 use Rattle.formats.proofs.FormatLaws.{shared-first}
 use Rattle.scaling.specs.Scaling.{scalingIn, scalingOf}
 use Rattle.scaling.specs.declared.Scaling.{Scaling}
@@ -41,7 +40,9 @@ use Rattle.heads.specs.Heads.{headWith, headBytes}
 use Rattle.heads.proofs.HeadLaws.{whole-head}
 use Rattle.keptrecords.specs.declared.KeptRecords.{KeptRecords}
 use Rattle.keptrecords.specs.KeptRecords.{measured}
-use Rattle.keptpoints.specs.KeptPoints.{TableOf, inTable, keptPoints}
+use Rattle.classes.specs.Classes.{TableOf, inTable}
+use Rattle.classes.proofs.ClassLaws.{table-keeps}
+use Rattle.keptpoints.specs.KeptPoints.{keptPoints}
 use Rattle.keptpoints.proofs.KeptPointLaws.{kept-held}
 use Rattle.assembly.specs.Assembly.{totalsOf, pointsBytes, withPoints, withHead, written}
 
@@ -157,10 +158,9 @@ module _ (sheet s : Bytes) (bytes : AllBytes s) (passes : fileVerdict s ≡ Pass
 
   module _ (table : List Bool) (right : TableOf sheet table) where
     -- the table keeps the points that the sheet keeps
-    by-table : (ps : List Bytes) → All AllBytes ps → All (λ p. inTable table p ≡ keepsPoint sheet (format s) p) ps
-    unfolding inTable keepsPoint classOf
+    by-table : (ps : List Bytes) → All AllBytes ps → All (λ p. inTable table (format s) p ≡ keepsPoint sheet (format s) p) ps
     by-table [] h = tt
-    by-table (p ∷ ps) h = (right (getD p 15 0) (h .0 15), by-table ps (h .1))
+    by-table (p ∷ ps) h = (table-keeps sheet table right (format s) p (h .0), by-table ps (h .1))
 
     run-bytes : AllBytes run
     run-bytes i = rw getD-drop (bytes (pointOffset s + i))
@@ -168,11 +168,11 @@ module _ (sheet s : Bytes) (bytes : AllBytes s) (passes : fileVerdict s ≡ Pass
     held : Held (pointCount s) (recordLength s) (length run)
     held = record { long = long; few = few; within = simp length-drop (omega (arith, passed s passes .pointed)) }
 
-    pub points-are : keptPoints table (pointCount s) (recordLength s) run ≡ part-of .points
+    pub points-are : keptPoints table (format s) (pointCount s) (recordLength s) run ≡ part-of .points
     unfolding publicOf restrict contents carriedOf
     points-are =
-        kept-held table (pointCount s) (recordLength s) run held
-        ∙ kept-same (inTable table) (keepsPoint sheet (format s)) (pieces (pointCount s) (recordLength s) run)
+        kept-held table (format s) (pointCount s) (recordLength s) run held
+        ∙ kept-same (inTable table (format s)) (keepsPoint sheet (format s)) (pieces (pointCount s) (recordLength s) run)
         (by-table (pieces (pointCount s) (recordLength s) run) (pieces-bytes (pointCount s) (recordLength s) run run-bytes))
 
     module _ (out : Bytes) (room : length (render part-of) ≤ length out) where
@@ -219,7 +219,7 @@ pub record Sized (sheet s : Bytes) (n : ℕ) (k : KeptRecords) (len : ℕ) : Typ
   pub most : length (render (publicOf sheet s)) ≤ length s
 
 pub sized : (sheet s : Bytes) → AllBytes s → fileVerdict s ≡ Passes → (table : List Bool) → TableOf sheet table
-    → (n : ℕ) → n ≡ length (keptPoints table (pointCount s) (recordLength s) (drop (pointOffset s) s))
+    → (n : ℕ) → n ≡ length (keptPoints table (format s) (pointCount s) (recordLength s) (drop (pointOffset s) s))
     → (k : KeptRecords) → k ≡ measured (publicOf sheet s .records) → (len : ℕ) → len ≡ recordLength s → Sized sheet s n k len
 unfolding measured
 sized sheet s bytes passes table right n by k m len l =

@@ -2,7 +2,6 @@
 ghost use mathlib.Core.Path.{_≡_};
 ghost use Rattle.publicpart.specs.Release.{release};
 use fields::Verdict;
-use fields::numbers::number_at;
 use publicpart::Answer;
 
 // Releases what a sheet keeps of a file. Everything that can refuse is decided before the first byte is written.
@@ -17,11 +16,12 @@ pub fn release(file: &[u8], sheet: &[u8], out: &mut [u8]) -> Answer
     if let Verdict::Fails(n) = sheet_verdict {
         return Answer::Refused(n);
     }
-    let offset = number_at(file, 96, 4) as usize;
-    let record_length = number_at(file, 105, 2) as usize;
-    let count = number_at(file, 107, 4) as usize;
-    let table = keptpoints::class_table(sheet);
-    let points = keptpoints::count_points(&file[offset..], record_length, count, table);
+    let offset = headerfields::point_offset(file);
+    let format = headerfields::format(file);
+    let record_length = headerfields::record_length(file);
+    let count = headerfields::point_count(file);
+    let table = classes::class_table(sheet);
+    let points = keptpoints::count_points(&file[offset..], format, record_length, count, &table);
     let kept = keptrecords::measure(file, sheet);
     let records = kept.count;
     let start = headerfields::HEADER_BLOCK + kept.length;
@@ -29,6 +29,6 @@ pub fn release(file: &[u8], sheet: &[u8], out: &mut [u8]) -> Answer
     if out.len() < needed {
         return Answer::Short(needed);
     }
-    assembly::write(file, sheet, table, points, records, start, out);
+    assembly::write(file, sheet, &table, points, records, start, out);
     Answer::Released(needed, points, records)
 }

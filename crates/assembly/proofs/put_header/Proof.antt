@@ -13,12 +13,6 @@ use borrow.Author.Needs.{needs}
 use Rattle.assembly.proofs.put_header.Statement.{statement}
 use Rattle.assembly.proofs.put_header.Tie as tie
 
-totals-of-requires : tie.Need-totals-of-requires
-totals-of-requires c κs = search needs
-
-put-head-requires : tie.Need-put-head-requires
-put-head-requires c κs = search needs
-
 same-length : tie.Need-same-length
 same-length c = search needs
 
@@ -32,4 +26,4 @@ returns c =
     headed ∙ rw said
 
 pub put-header-spec : {M : Type 1} → statement M
-put-header-spec = tie.close (tie.spec totals-of-requires put-head-requires same-length returns)
+put-header-spec = tie.close (tie.spec (λ c κs. tt) (λ c κs. tt) same-length returns)

@@ -6,7 +6,6 @@ use mathlib.Core.List.{_++_}
 use denote.Ref.{now}
 use lib.ListN.{length, take, drop}
 use Rattle.fields.specs.Bytes.{Bytes, join, zeros}
-use Rattle.headerfields.specs.HeaderFields.{pointOffset, pointCount, recordLength}
 use Rattle.keptrecords.proofs.KeptLaws.{from-place}
 use Rattle.keptpoints.specs.KeptPoints.{keptPoints}
 use Rattle.assembly.specs.Assembly.{pointsBytes}
@@ -17,29 +16,17 @@ use Rattle.assembly.proofs.put_points.Tie as tie
 
 -- the points that are copied are those of the file
 points-are : (c : tie.After-part-at)
-    → let a = c .before .before .before .before .before .before .before .args in
-    join (keptPoints (a .table) (c .before .number-at3 .result) (c .before .before .number-at2 .result) (now (c .part-at .result)))
-    ≡ pointsBytes (a .table) (now (a .file))
-unfolding pointsBytes pointOffset pointCount recordLength
+    → let a = c .before .before .before .before .before .before .before .before .args in
+    join (keptPoints (now (a .table)) (c .before .before .before .format .result) (c .before .point-count .result) (c .before .before .record-length .result) (now (c .part-at .result)))
+    ≡ pointsBytes (now (a .table)) (now (a .file))
+unfolding pointsBytes
 points-are c =
-    let s = now (c .before .before .before .before .before .before .before .args .file) in
-    let run : now (c .part-at .result) ≡ drop (c .before .before .before .number-at .result) s = c .part-at .ensures ∙ from-place s _ in
-    rw (run, c .before .before .before .number-at .ensures .0, c .before .before .number-at2 .ensures .0, c .before .number-at3 .ensures .0)
+    let s = now (c .before .before .before .before .before .before .before .before .args .file) in
+    let run : now (c .part-at .result) ≡ drop (c .before .before .before .before .point-offset .result) s = c .part-at .ensures ∙ from-place s _ in
+    rw (run, c .before .before .before .before .point-offset .ensures .0, c .before .before .before .format .ensures .0, c .before .before .record-length .ensures .0, c .before .point-count .ensures .0)
 
 returns : tie.Need-returns
 returns c = sym (not-reached _ _ _ _ (omega arith))
-
-number-at-requires : tie.Need-number-at-requires
-number-at-requires c κs = search needs
-
-number-at-requires-2 : tie.Need-number-at-requires-2
-number-at-requires-2 c κs = search needs
-
-number-at-requires-3 : tie.Need-number-at-requires-3
-number-at-requires-3 c κs = search needs
-
-part-at-requires : tie.Need-part-at-requires
-part-at-requires c κs = search needs
 
 sub-copy-points : tie.Need-sub-copy-points
 sub-copy-points c = search needs
@@ -50,20 +37,17 @@ part-copy-points-start c = search needs
 part-copy-points-end : tie.Need-part-copy-points-end
 part-copy-points-end c = search needs
 
-copy-points-requires : tie.Need-copy-points-requires
-copy-points-requires c κs = search needs
-
 same-length : tie.Need-same-length
 same-length c = search needs
 
 -- the points come to stand in the whole output, from the new point offset on
 returns-2 : tie.Need-returns-2
 returns-2 c =
-    let a = c .before .before .before .before .before .before .before .before .before .before .before .args in
+    let a = c .before .before .before .before .before .before .before .before .before .before .before .before .args in
     let lent : Bytes = take (length (now (a .out)) - a .start) (drop (a .start) (now (a .out))) in
-    let copied : c .before .before .copy-points .last .1 .1 .1 .1 .0 ≡ take (length lent) (join (keptPoints (a .table) (c .before .before .before .before .before .number-at3 .result) (c .before .before .before .before .before .before .number-at2 .result) (now (c .before .before .before .before .part-at .result))) ++ zeros (length lent)) =
+    let copied : c .before .before .copy-points .last .1 .1 .1 .1 .1 .0 ≡ take (length lent) (join (keptPoints (now (a .table)) (c .before .before .before .before .before .before .before .format .result) (c .before .before .before .before .before .point-count .result) (c .before .before .before .before .before .before .record-length .result) (now (c .before .before .before .before .part-at .result))) ++ zeros (length lent)) =
     c .before .before .copy-points .ensures in
-    points-back (a .table) (now (a .file)) (a .start) (now (a .out)) _
+    points-back (now (a .table)) (now (a .file)) (a .start) (now (a .out)) _
     (copied ∙ ap (λ (b : Bytes). take (length lent) (b ++ zeros (length lent))) (points-are (c .before .before .before .before)))
 
 pub put-points-spec : {M : Type 1} → statement M
@@ -71,13 +55,14 @@ put-points-spec =
     tie.close
     (tie.spec
     returns
-    number-at-requires
-    number-at-requires-2
-    number-at-requires-3
-    part-at-requires
+    (λ c κs. tt)
+    (λ c κs. tt)
+    (λ c κs. tt)
+    (λ c κs. tt)
+    (λ c κs. tt)
     sub-copy-points
     part-copy-points-start
     part-copy-points-end
-    copy-points-requires
+    (λ c κs. tt)
     same-length
     returns-2)

