@@ -2,7 +2,6 @@
 -- Assumes nothing.
 use mathlib.Core.Path.{_≡_, refl, sym, _∙_}
 use native.Mathlib.Omega.{arith}
-use borrow.Author.Needs.{needs}
 use Rattle.fields.specs.Lists.{some}
 use Rattle.fields.specs.Text.{cut}
 use Rattle.sheet.specs.Sheet.{lines, linesFrom}
@@ -26,20 +25,11 @@ returns c =
     let l = c .before .before .loop in
     sym (l .inv ∙ some-full _ (l .left) (l .rest .now) (c .if1 .taken))
 
-first-line-requires : tie.Need-first-line-requires Inv-loop μ-loop
-first-line-requires c κs = search needs
-
-line-keeps-requires : tie.Need-line-keeps-requires Inv-loop μ-loop
-line-keeps-requires c κs = search needs
-
 returns-2 : tie.Need-returns-2 Inv-loop μ-loop
 returns-2 c =
     let l = c .before .before .before .before .before .loop in
     let line = c .before .before .first-line in
     sym (l .inv ∙ some-here _ (l .left) (l .rest .now) (line .result .now) (omega arith) (omega arith) (line .ensures) (sym (c .before .line-keeps .ensures) ∙ c .if2 .taken))
-
-after-line-requires : tie.Need-after-line-requires Inv-loop μ-loop
-after-line-requires c κs = search needs
 
 sub-left : tie.Need-sub-left Inv-loop μ-loop
 sub-left c = omega arith
@@ -59,18 +49,4 @@ returns-3 c =
     sym (l .inv ∙ some-end _ (l .left) (l .rest .now) (omega arith))
 
 pub some-line-keeps-spec : {M : Type 1} → statement M
-some-line-keeps-spec =
-    tie.close
-    (tie.spec
-    Inv-loop
-    μ-loop
-    loop-holds
-    returns
-    first-line-requires
-    line-keeps-requires
-    returns-2
-    after-line-requires
-    sub-left
-    loop-less
-    loop-again
-    returns-3)
+some-line-keeps-spec = tie.close (tie.spec Inv-loop μ-loop loop-holds returns (λ c κs. tt) (λ c κs. tt) returns-2 (λ c κs. tt) sub-left loop-less loop-again returns-3)

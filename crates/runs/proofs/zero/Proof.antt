@@ -3,7 +3,6 @@
 use mathlib.Core.Path.{_≡_, refl, sym, ap, _∙_}
 use Prim.Native.Nat.{ℕ, zero, suc, _+_, _-_, _≤_, _<_, min}
 use native.Mathlib.Omega.{arith}
-use borrow.Author.Needs.{needs}
 use mathlib.Core.List.{_∷_}
 use lib.ListN.{length, take, set, length-set, length-replicate}
 use lib.Seq.{sets}
@@ -43,9 +42,6 @@ returns c = let a = c .before .before .args in sym (sets-out (a .dst .now) (a .a
 sub-least : tie.Need-sub-least Inv-loop μ-loop
 sub-least c = omega arith
 
-least-requires : tie.Need-least-requires Inv-loop μ-loop
-least-requires c κs = search needs
-
 add-end : tie.Need-add-end Inv-loop μ-loop
 add-end c = omega arith
 
@@ -78,19 +74,4 @@ returns-2 c =
     ended (l .dst) (l .i) (a .at + m) (omega arith) ∙ l .inv .3 ∙ rw e (all-zeros (a .dst .now) (a .at) (a .n) m (omega arith) (c .before .before .least .ensures))
 
 pub zero-spec : {M : Type 1} → statement M
-zero-spec =
-    tie.close
-    (tie.spec
-    Inv-loop
-    μ-loop
-    returns
-    sub-least
-    least-requires
-    add-end
-    loop-holds
-    slice-write-dst
-    add-i
-    loop-less
-    loop-again
-    same-length
-    returns-2)
+zero-spec = tie.close (tie.spec Inv-loop μ-loop returns sub-least (λ c κs. tt) add-end loop-holds slice-write-dst add-i loop-less loop-again same-length returns-2)

@@ -22,23 +22,11 @@ returns c =
     let l = c .before .before .loop in
     sym (l .inv ∙ verdict-full (l .left) (l .rest .now) (c .if1 .taken) (omega arith))
 
-check-line-requires : tie.Need-check-line-requires Inv-loop μ-loop
-check-line-requires c κs = search needs
-
-enum-told : tie.Need-enum-told Inv-loop μ-loop
-enum-told c = search needs
-
 returns-2 : tie.Need-returns-2 Inv-loop μ-loop
 returns-2 c =
     let l = c .before .before .before .before .before .loop in
     let line = c .before .before .check-line in
     sym (l .inv ∙ verdict-here (l .left) (l .rest .now) (line .result) _ (omega arith) (omega arith) (line .ensures) (c .enum-told .given .1))
-
-enum-told-2 : tie.Need-enum-told-2 Inv-loop μ-loop
-enum-told-2 c = search needs
-
-after-line-requires : tie.Need-after-line-requires Inv-loop μ-loop
-after-line-requires c κs = search needs
 
 sub-left : tie.Need-sub-left Inv-loop μ-loop
 sub-left c = omega arith
@@ -65,11 +53,11 @@ check-sheet-spec =
     μ-loop
     loop-holds
     returns
-    check-line-requires
-    enum-told
+    (λ c κs. tt)
+    (λ c. search needs)
     returns-2
-    enum-told-2
-    after-line-requires
+    (λ c. search needs)
+    (λ c κs. tt)
     sub-left
     loop-less
     loop-again

@@ -2,7 +2,6 @@
 use mathlib.Core.Path.{_≡_}
 use Prim.Native.Nat.{_+_, _-_, _≤_}
 use native.Mathlib.Omega.{arith}
-use borrow.Author.Needs.{needs}
 use lib.ListN.{length, take, drop, length-drop}
 use lib.Seq.{length-take-le}
 use Rattle.tally.proofs.CountLaws.{counts-up}
@@ -15,9 +14,6 @@ Inv-loop run record-length count t₀ at₀ left₀ t at left = Running record-l
 
 abbrev μ-loop : tie.MeasureT-loop
 μ-loop run record-length count t₀ at₀ left₀ t at left = left
-
-fresh-requires : tie.Need-fresh-requires Inv-loop μ-loop
-fresh-requires c κs = search needs
 
 loop-holds : tie.Need-loop-holds Inv-loop μ-loop
 loop-holds c =
@@ -79,7 +75,7 @@ tally-run-spec =
     (tie.spec
     Inv-loop
     μ-loop
-    fresh-requires
+    (λ c κs. tt)
     loop-holds
     add-next
     sub-add-point

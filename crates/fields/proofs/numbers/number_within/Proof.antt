@@ -4,7 +4,6 @@ use mathlib.Core.Path.{_≡_, sym, _∙_}
 use Prim.Native.Nat.{ℕ, suc, zero-le, _+_, _-_, _*_, _^_, _≤_, _<_}
 use native.Mathlib.Nat.{pow-le-pow-right}
 use native.Mathlib.Omega.{arith}
-use borrow.Author.Needs.{needs}
 use lib.ListN.{getD}
 use Rattle.fields.specs.Bytes.{Bytes, num, part}
 use Rattle.fields.proofs.ByteLaws.{num-part-suc, num-part-zero, num-past}
@@ -58,12 +57,6 @@ mul-r c = omega (arith, room (c .before .before .before .before .args .w - c .be
 add-u8-at : tie.Need-add-u8-at Inv-loop μ-loop
 add-u8-at c = omega arith
 
-u8-at-requires : tie.Need-u8-at-requires Inv-loop μ-loop
-u8-at-requires c κs = search needs
-
-wide-requires : tie.Need-wide-requires Inv-loop μ-loop
-wide-requires c κs = search needs
-
 add-r : tie.Need-add-r Inv-loop μ-loop
 add-r c = omega (arith, room (c .before .before .before .before .before .before .args .w - c .before .before .before .loop .i) (omega arith))
 
@@ -85,19 +78,4 @@ returns-2 c =
     rw (a, b) at (l .inv .1)
 
 pub number-within-spec : {M : Type 1} → statement M
-number-within-spec =
-    tie.close
-    (tie.spec
-    Inv-loop
-    μ-loop
-    returns
-    loop-holds
-    sub-i
-    mul-r
-    add-u8-at
-    u8-at-requires
-    wide-requires
-    add-r
-    loop-less
-    loop-again
-    returns-2)
+number-within-spec = tie.close (tie.spec Inv-loop μ-loop returns loop-holds sub-i mul-r add-u8-at (λ c κs. tt) (λ c κs. tt) add-r loop-less loop-again returns-2)
