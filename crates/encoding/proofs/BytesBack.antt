@@ -16,10 +16,11 @@ use Rattle.fields.proofs.ByteLaws.{bytesOf-num, drop-bytes, num-part-lt, num-pa
 use Rattle.formats.specs.declared.Place.{Place}
 use Rattle.formats.specs.declared.Place.the-variants.{At, Absent}
 use Rattle.formats.specs.Formats.{formatSize, timePlace, colourPlace}
+use Rattle.formats.proofs.FormatLaws.{Follows, widthIf, layered}
 use Rattle.points.specs.Points.{bits, numberAt, pointOf, bit}
 use Rattle.shared.specs.Shared.{flagByte, sharedFields}
 use Rattle.encoding.specs.Encoding.{ifPlaced, timeFields, colours, colourFields, pointBytes}
-use Rattle.encoding.proofs.LayoutLaws.{Follows, widthIf, layered, sharedWidths, bytes-groups}
+use Rattle.encoding.proofs.LayoutLaws.{sharedWidths, bytes-groups}
 
 -- ---- one field
 

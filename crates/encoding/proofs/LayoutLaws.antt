@@ -1,7 +1,7 @@
--- Laws of the layout: GPS time stands behind the shared fields, and colour behind both, where a format has them.
+-- Laws of a point's bytes: the shared fields, then GPS time and colour where the format has them.
 -- Assumes nothing.
 use mathlib.Core.Path.{_≡_, refl, sym, ap, _∙_}
-use Prim.Native.Nat.{ℕ, zero, suc, _+_, _≤_}
+use Prim.Native.Nat.{ℕ, _+_, _≤_}
 use native.Mathlib.Nat.{zero-add}
 use native.Mathlib.Omega.{arith}
 use mathlib.Core.List.{List, [], _∷_, _++_, append-nil, append-assoc}
@@ -14,33 +14,10 @@ use Rattle.fields.proofs.StoreLaws.{sets-append}
 use Rattle.formats.specs.declared.Place.{Place}
 use Rattle.formats.specs.declared.Place.the-variants.{At, Absent}
 use Rattle.formats.specs.Formats.{formatSize, timePlace, colourPlace}
+use Rattle.formats.proofs.FormatLaws.{Follows, widthIf, layered}
 use Rattle.points.specs.declared.Point.{Point}
 use Rattle.shared.specs.Shared.{sharedFields}
 use Rattle.encoding.specs.Encoding.{ifPlaced, storedAt, timeFields, colours, colourFields, pointFields, pointBytes}
-
--- where the format has the field, it begins after n bytes
-abbrev pub Follows : Place → ℕ → Type 0
-Follows Absent n = Unit {0}
-Follows (At at) n = at ≡ n
-
--- how many bytes fields of w bytes take at a place
-abbrev pub widthIf : Place → ℕ → ℕ
-widthIf Absent w = 0
-widthIf (At at) w = w
-
--- what the table of the formats says, format by format: all else is over the place
-pub record Layered (f : ℕ) : Type 0 where
-  pub time : Follows (timePlace f) 20
-  pub colour : Follows (colourPlace f) (20 + widthIf (timePlace f) 8)
-  pub size : f ≤ 3 → formatSize f ≡ 20 + widthIf (timePlace f) 8 + widthIf (colourPlace f) 6
-
-pub layered : (f : ℕ) → Layered f
-unfolding formatSize timePlace colourPlace
-layered zero = record { time = tt; colour = tt; size = λ h. refl }
-layered (suc zero) = record { time = refl; colour = tt; size = λ h. refl }
-layered (suc (suc zero)) = record { time = tt; colour = refl; size = λ h. refl }
-layered (suc (suc (suc zero))) = record { time = refl; colour = refl; size = λ h. refl }
-layered (suc (suc (suc (suc f)))) = record { time = tt; colour = tt; size = λ h. absurd (omega arith) }
 
 -- ---- the widths of the fields
 

@@ -69,10 +69,6 @@ lent-back l ys a xs e =
     let z : a + 0 ≡ a = omega arith in
     rw (e, none, append-nil, tail-part l a) (rw z at (sets-tail l a 0 xs))
 
--- all of a list stored over
-pub sets-all : (l xs : Bytes) → length xs ≡ length l → sets l 0 xs ≡ xs
-sets-all l xs e = sets-eq xs l 0 (omega arith) ∙ rw (drop-of-length-le l {i = 0 + length xs} (omega arith), append-nil xs)
-
 -- ---- what was stored is read back
 
 pub part-stored : (at w : ℕ) (b s : Bytes) → length b ≡ w → at + w ≤ length s → part at w (sets s at b) ≡ b

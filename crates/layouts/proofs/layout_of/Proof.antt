@@ -1,26 +1,22 @@
 -- `layouts::layout_of` meets its contract: each arm gives the parts of its own format. Assumes nothing.
 use mathlib.Core.Path.{refl, sym}
 use native.Mathlib.Omega.{arith}
-use Rattle.formats.specs.Formats.{formatSize}
-use Rattle.layouts.proofs.PartsLaws.{layout-is, above}
+use Rattle.formats.proofs.FormatLaws.{sizes, above}
+use Rattle.layouts.proofs.PartsLaws.{layout-is}
 use Rattle.layouts.proofs.layout_of.Statement.{statement}
 use Rattle.layouts.proofs.layout_of.Tie as tie
 
 returns : tie.Need-returns
-unfolding formatSize
-returns c = layout-is _ 0 _ _ _ (c .before .before .match .keys1) refl (c .before .time-place .ensures) (c .colour-place .ensures)
+returns c = layout-is _ 0 _ _ _ (c .before .before .match .keys1) (sizes .0) (c .before .time-place .ensures) (c .colour-place .ensures)
 
 returns-2 : tie.Need-returns-2
-unfolding formatSize
-returns-2 c = layout-is _ 1 _ _ _ (c .before .before .match .keys2) refl (c .before .time-place2 .ensures) (c .colour-place2 .ensures)
+returns-2 c = layout-is _ 1 _ _ _ (c .before .before .match .keys2) (sizes .1) (c .before .time-place2 .ensures) (c .colour-place2 .ensures)
 
 returns-3 : tie.Need-returns-3
-unfolding formatSize
-returns-3 c = layout-is _ 2 _ _ _ (c .before .before .match .keys3) refl (c .before .time-place3 .ensures) (c .colour-place3 .ensures)
+returns-3 c = layout-is _ 2 _ _ _ (c .before .before .match .keys3) (sizes .2) (c .before .time-place3 .ensures) (c .colour-place3 .ensures)
 
 returns-4 : tie.Need-returns-4
-unfolding formatSize
-returns-4 c = layout-is _ 3 _ _ _ (c .before .before .match .keys4) refl (c .before .time-place4 .ensures) (c .colour-place4 .ensures)
+returns-4 c = layout-is _ 3 _ _ _ (c .before .before .match .keys4) (sizes .3) (c .before .time-place4 .ensures) (c .colour-place4 .ensures)
 
 returns-5 : tie.Need-returns-5
 returns-5 c =

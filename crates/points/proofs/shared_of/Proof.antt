@@ -5,13 +5,13 @@ use native.Mathlib.Omega.{arith}
 use lib.Dec.{eqb}
 use mir.Syntax.{w8, w32}
 use mir.ValLaws.{toZ-ofZ}
-use Rattle.formats.specs.Formats.{timePlace, colourPlace}
+use Rattle.formats.proofs.FormatLaws.{plain}
 use Rattle.points.specs.Points.{bits, numberAt, pointOf}
 use Rattle.points.proofs.shared_of.Statement.{statement}
 use Rattle.points.proofs.shared_of.Tie as tie
 
 returns : tie.Need-returns
-unfolding pointOf bits numberAt timePlace colourPlace
+unfolding pointOf bits numberAt
 returns c =
     let source = c .u16-at2 .ensures in
     let user = c .before .u8-at3 .ensures in
@@ -25,7 +25,8 @@ returns c =
     let x = toZ-ofZ w32 (p .before .before .i32-at .result) (record { sfits = p .before .before .i32-at .ok }) ∙ p .before .before .i32-at .ensures in
     let flags = p .before .before .before .u8-at .ensures in
     let first : p .before .before .before .u8-at .result % 8 ≡ p .before .before .before .u8-at .result / 1 % 8 = omega arith in
-    λ i.
+    rw (plain .0, plain .1)
+    (λ i.
     record {
       x = x i;
       y = y i;
@@ -43,7 +44,7 @@ returns c =
       red = 0;
       green = 0;
       blue = 0;
-    }
+    })
 
 pub shared-of-spec : {M : Type 1} → statement M
 shared-of-spec =
