@@ -2,7 +2,7 @@
 -- Assumes nothing.
 use mathlib.Core.Path.{_≡_, refl, sym, ap, _∙_}
 use mathlib.Core.Bool.{Bool}
-use Prim.Native.Nat.{ℕ, _+_, _-_, _*_, _^_, _≤_, _<_}
+use Prim.Native.Nat.{ℕ, _+_, _-_, _*_, _≤_}
 use native.Mathlib.Omega.{arith}
 use mathlib.Core.List.{List, [], _∷_, _++_, append-assoc}
 use lib.ListN.{length, take, drop, getD, length-append, length-drop, length-replicate, replicate-append-replicate}
@@ -10,13 +10,13 @@ use lib.Seq.{sets, sets-eq, length-sets, length-take-le, getD-drop, take-at, dro
 use Rattle.fields.specs.Lists.{All, total}
 use Rattle.fields.specs.Bytes.{Bytes, AllBytes, zeros, join, pieces}
 use Rattle.fields.specs.declared.Verdict.the-variants.{Passes}
-use Rattle.fields.proofs.ByteLaws.{num-part-lt, pieces-bytes, pieces-back, length-join-pieces}
+use Rattle.fields.proofs.ByteLaws.{pieces-bytes, pieces-back, length-join-pieces}
 use Rattle.fields.proofs.ListLaws.{kept-same}
 use Rattle.formats.proofs.FormatLaws.{shared-first}
 use Rattle.scaling.specs.Scaling.{scalingIn, scalingOf}
-use Rattle.scaling.specs.declared.Scaling.{Scaling}
 use Rattle.records.specs.Records.{recordLen, recordsBytes}
 use Rattle.records.proofs.RecordLaws.{length-recordsBytes}
+use Rattle.headerfields.proofs.BoundLaws.{count-low}
 use Rattle.headerfields.specs.HeaderFields.{headerBlock, pointOffset, pointCount, recordLength, format}
 use Rattle.lasfile.specs.FileChecks.{fileVerdict}
 use Rattle.lasfile.proofs.Passed.{passed}
@@ -25,14 +25,14 @@ use Rattle.pointruns.specs.PointRuns.{pointsOf}
 use Rattle.pointruns.proofs.RunLaws.{Held, points-held}
 use Rattle.tally.specs.Tally.{tallyOf}
 use Rattle.tally.proofs.TallyLaws.{tally-count, tally-bins}
-use Rattle.bounds.specs.Bounds.{tallyBounds}
 use Rattle.bounds.proofs.BoundsLaws.{tally-bounds}
-use Rattle.publicpart.specs.Bounds.{bins, bounds, boundNumbers}
-use Rattle.publicpart.specs.Public.{Public, carriedOf, contents, restrict, publicOf}
+use Rattle.publicpart.specs.Public.{Public, contents, publicOf}
 use Rattle.publicpart.specs.Head.{Head, headFields}
-use Rattle.publicpart.specs.Render.{newOffset, headOf, render, totals}
+use Rattle.publicpart.specs.Render.{newOffset, headOf, render}
 use Rattle.publicpart.proofs.Sound.{Sound, sound, sound-restrict}
+use Rattle.publicpart.proofs.PublicLaws.{carried-length, carried-scaled, contents-points, public-is, public-carried, public-points}
 use Rattle.publicpart.proofs.HeadLaws.{length-head}
+use Rattle.publicpart.proofs.RenderLaws.{new-offset, total-length, render-parts, head-of}
 use Rattle.publicpart.proofs.LengthLaws.{no-longer}
 use Rattle.publicpart.proofs.Back.{fitting, length-render}
 use Rattle.heads.specs.declared.Totals.{Totals}
@@ -44,7 +44,9 @@ use Rattle.classes.specs.Classes.{TableOf, inTable}
 use Rattle.classes.proofs.ClassLaws.{table-keeps}
 use Rattle.keptpoints.specs.KeptPoints.{keptPoints}
 use Rattle.keptpoints.proofs.KeptPointLaws.{kept-held}
-use Rattle.assembly.specs.Assembly.{totalsOf, pointsBytes, withPoints, withHead, written}
+use Rattle.assembly.specs.Assembly.{totalsOf, withPoints, written}
+use Rattle.assembly.proofs.PointLaws.{with-points}
+use Rattle.assembly.proofs.WrittenLaws.{head-said, written-is}
 
 -- zeros behind a run, as far as there is room
 zeros-behind : (xs : Bytes) (k : ℕ) → length xs ≤ k → take k (xs ++ zeros k) ≡ xs ++ zeros (k - length xs)
@@ -73,20 +75,13 @@ module _ (sheet s : Bytes) (bytes : AllBytes s) (passes : fileVerdict s ≡ Pass
   -- ---- what the definitions say of the file
 
   sound-part : Sound part-of
-  unfolding publicOf
-  sound-part = sound-restrict sheet (contents s) (sound s bytes (passed s passes))
+  sound-part = rw (public-is sheet s) (sound-restrict sheet (contents s) (sound s bytes (passed s passes)))
 
   length-is : part-of .carried .recordLength ≡ recordLength s
-  unfolding publicOf restrict contents carriedOf
-  length-is = refl
+  length-is = rw (public-carried sheet s) (carried-length s)
 
-  carried-is : carriedOf s ≡ part-of .carried
-  unfolding publicOf restrict contents
-  carried-is = refl
-
-  scaling-is : scalingOf s ≡ scalingIn (part-of .carried .scaling)
-  unfolding scalingOf publicOf restrict contents carriedOf
-  scaling-is = refl
+  scaling-is : scalingIn (part-of .carried .scaling) ≡ scalingOf s
+  scaling-is = rw (public-carried sheet s) (carried-scaled s)
 
   -- the three parts of the released file, and their lengths
   abbrev head : Bytes
@@ -109,19 +104,10 @@ module _ (sheet s : Bytes) (bytes : AllBytes s) (passes : fileVerdict s ≡ Pass
 
   -- the length of the released file
   render-length : length (render part-of) ≡ newOffset part-of + length (part-of .points) * recordLength s
-  unfolding totals
-  render-length = length-render part-of sound-part ∙ rw length-is
-
-  in-parts : (z : Bytes) → render part-of ++ z ≡ head ++ (records ++ (points ++ z))
-  unfolding render
-  in-parts z = simp append-assoc
+  render-length = length-render part-of sound-part ∙ rw (total-length part-of, length-is)
 
   long : 20 ≤ recordLength s
   long = omega (arith, shared-first (format s) (passed s passes .formatted), passed s passes .recordLow)
-
-  few : pointCount s < 2 ^ 32
-  unfolding pointCount
-  few = num-part-lt 107 4 s bytes
 
   -- ---- the header is that of the public part's points
 
@@ -129,22 +115,10 @@ module _ (sheet s : Bytes) (bytes : AllBytes s) (passes : fileVerdict s ≡ Pass
   own = totalsOf s (tallyOf (part-of .points)) (length (part-of .records)) (newOffset part-of)
 
   head-is : headWith s own ≡ headOf part-of
-  unfolding headWith headOf totalsOf tallyOf
   head-is =
       let ps : List Bytes = part-of .points in
-      let count = tally-count ps in
-      let bs = tally-bins ps in
-      let bounded : boundNumbers (tallyBounds (tallyOf ps) (scalingOf s)) ≡ bounds (scalingIn (part-of .carried .scaling)) ps =
-      tally-bounds (scalingOf s) ps ∙ ap (λ (c : Scaling). bounds c ps) scaling-is in
-      λ i.
-      record {
-        carried = carried-is i;
-        offset = newOffset part-of;
-        records = length (part-of .records);
-        points = count i;
-        bins = bs i;
-        bounds = bounded i;
-      }
+      rw (head-said s (tallyOf ps) (length (part-of .records)) (newOffset part-of))
+      (head-of part-of _ (sym (public-carried sheet s)) refl refl (tally-count ps) (tally-bins ps) (rw scaling-is (tally-bounds (scalingOf s) ps)))
 
   own-head : headBytes s own ≡ head
   own-head = whole-head s own (passed s passes .whole) ∙ ap (λ (k : Head). join (headFields k)) head-is
@@ -166,14 +140,14 @@ module _ (sheet s : Bytes) (bytes : AllBytes s) (passes : fileVerdict s ≡ Pass
     run-bytes i = rw getD-drop (bytes (pointOffset s + i))
 
     held : Held (pointCount s) (recordLength s) (length run)
-    held = record { long = long; few = few; within = simp length-drop (omega (arith, passed s passes .pointed)) }
+    held = record { long = long; few = count-low s bytes; within = simp length-drop (omega (arith, passed s passes .pointed)) }
 
     pub points-are : keptPoints table (format s) (pointCount s) (recordLength s) run ≡ part-of .points
-    unfolding publicOf restrict contents carriedOf
     points-are =
-        kept-held table (format s) (pointCount s) (recordLength s) run held
+        rw (public-points sheet s, contents-points s)
+        (kept-held table (format s) (pointCount s) (recordLength s) run held
         ∙ kept-same (inTable table (format s)) (keepsPoint sheet (format s)) (pieces (pointCount s) (recordLength s) run)
-        (by-table (pieces (pointCount s) (recordLength s) run) (pieces-bytes (pointCount s) (recordLength s) run run-bytes))
+        (by-table (pieces (pointCount s) (recordLength s) run) (pieces-bytes (pointCount s) (recordLength s) run run-bytes)))
 
     module _ (out : Bytes) (room : length (render part-of) ≤ length out) where
       abbrev z : Bytes
@@ -184,8 +158,7 @@ module _ (sheet s : Bytes) (bytes : AllBytes s) (passes : fileVerdict s ≡ Pass
       front = take headerBlock out
 
       offset-is : newOffset part-of ≡ headerBlock + length records
-      unfolding newOffset
-      offset-is = omega (arith, length-of-records)
+      offset-is = omega (arith, new-offset part-of, length-of-records)
 
       length-front : length front ≡ headerBlock
       length-front = length-take-le headerBlock out (omega (arith, render-length, offset-is))
@@ -198,17 +171,15 @@ module _ (sheet s : Bytes) (bytes : AllBytes s) (passes : fileVerdict s ≡ Pass
           rw (sets-eq records out headerBlock (omega (arith, render-length, offset-is))) (take-at (front ++ records) (drop (headerBlock + length records) out) (newOffset part-of) length-both)
 
       points-stored : withPoints table s (newOffset part-of) (sets out headerBlock records) ≡ (front ++ records) ++ (points ++ z)
-      unfolding withPoints pointsBytes
       points-stored =
           let n : length out - newOffset part-of - length points ≡ length out - length (render part-of) = omega (arith, render-length, length-of-points) in
-          rw (records-stored, length-sets, points-are, zeros-behind points (length out - newOffset part-of) (omega (arith, render-length, length-of-points)), n)
+          rw (with-points, records-stored, length-sets, points-are, zeros-behind points (length out - newOffset part-of) (omega (arith, render-length, length-of-points)), n)
 
       -- records, points and zeros at their places, and the header over the front
       pub assembled : written sheet s table (length (part-of .points)) (length (part-of .records)) (newOffset part-of) out ≡ render part-of ++ z
-      unfolding written withHead
       assembled =
-          rw (points-stored, drop-at (front ++ records) (points ++ z) (newOffset part-of) length-both, read-back z, own-head, append-assoc front records (points ++ z))
-          (over-front front (records ++ (points ++ z)) head (length-front ∙ sym length-of-head) ∙ sym (in-parts z))
+          rw (written-is, points-stored, drop-at (front ++ records) (points ++ z) (newOffset part-of) length-both, read-back z, own-head, append-assoc front records (points ++ z))
+          (over-front front (records ++ (points ++ z)) head (length-front ∙ sym length-of-head) ∙ sym (render-parts part-of z))
 
 -- what was counted and measured, over the released file
 pub record Sized (sheet s : Bytes) (n : ℕ) (k : KeptRecords) (len : ℕ) : Type 0 where
@@ -224,7 +195,7 @@ pub sized : (sheet s : Bytes) → AllBytes s → fileVerdict s ≡ Passes → (t
 unfolding measured
 sized sheet s bytes passes table right n by k m len l =
     let points : n ≡ length (publicOf sheet s .points) = by ∙ ap length (points-are sheet s bytes passes table right) in
-    let offset : headerBlock + k .length ≡ newOffset (publicOf sheet s) = unfold newOffset in ap (λ (r : KeptRecords). headerBlock + r .length) m in
+    let offset : headerBlock + k .length ≡ newOffset (publicOf sheet s) = rw (new-offset (publicOf sheet s)) (ap (λ (r : KeptRecords). headerBlock + r .length) m) in
     record {
       offset = offset;
       needed = rw (offset, points, l) (sym (render-length sheet s bytes passes));

@@ -15,9 +15,10 @@ use Rattle.sheet.specs.Sheet.{sheetVerdict}
 use Rattle.keptpoints.specs.KeptPoints.{keptPoints}
 use Rattle.publicpart.specs.Public.{publicOf}
 use Rattle.publicpart.specs.Render.{render}
-use Rattle.publicpart.specs.Release.{Outcome, accepted}
+use Rattle.publicpart.specs.Release.{Outcome}
 use Rattle.publicpart.specs.declared.Answer.the-variants.{Released, Short}
 use Rattle.publicpart.proofs.AnswerLaws.{refused-by-file, refused-by-sheet, release-short, release-long}
+use Rattle.assembly.specs.Assembly.{written}
 use Rattle.release.proofs.AssemblyLaws.{assembled, Sized, sized}
 use borrow.Author.Needs.{needs}
 use Rattle.release.proofs.release.Statement.{statement}
@@ -107,13 +108,15 @@ output-is c =
     let a = c .before .before .before .before .before .before .before .before .before .before .before .before .before .before .before .before .before .before .before .before .before .before .before .before .before .args in
     let table = c .before .before .before .before .before .before .before .before .before .before .before .class-table in
     let m = sizes (c .before .before .before .before .before .before .before) in
-    c .before .before .write .ensures
-    ∙ rw (m .points, m .records, m .offset)
+    let n = c .before .before .before .before .before .before .before .before .count-points .result in
+    let k = c .before .before .before .before .before .before .before .measure .result in
+    let wrote : c .before .before .write .last .1 .1 .1 .1 .1 .1 .0 ≡ written (now (a .sheet)) (now (a .file)) (table .result) n (k .count) (headerBlock + k .length) (now (a .out)) =
+    c .before .before .write .ensures in
+    wrote ∙ rw (m .points, m .records, m .offset)
     (assembled (now (a .sheet)) (now (a .file)) (file-bytes (c .before .before .before .before .before .before .before .before .before .before .before .before .before .before .before .before .before .before .before .before .before .before .before .before)) (file-passes (c .before .before .before .before .before .before .before .before .before .before .before .before .before .before .before .before .before .before .before)) (table .result) (table .ensures) (now (a .out)) (omega (arith, m .needed)))
 
 -- the numbers are the released file's length, its points and its records
 returns-4 : tie.Need-returns-4
-unfolding accepted
 returns-4 c =
     let m = sizes (c .before .before .before .before .before .before .before) in
     let a = c .before .before .before .before .before .before .before .before .before .before .before .before .before .before .before .before .before .before .before .before .before .before .before .before .before .args in
