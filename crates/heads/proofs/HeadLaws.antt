@@ -46,9 +46,9 @@ module _ (s : Bytes) (t : Totals) (long : headerBlock ≤ length s) where
       }
 
   -- the four groups of fields, stored one after the other
-  pub head-stored : (d front middle scaled out : Bytes) → front ≡ fieldsStored 0 5 (headWith s t) d → middle ≡ fieldsStored 5 9 (headWith s t) front
-      → scaled ≡ sets middle 131 (part 131 48 s) → out ≡ sets scaled 179 (numbersBytes 8 (boundNumbers (t .bounds))) → out ≡ sets d 0 (headBytes s t)
+  pub head-stored : (d front middle scaling scaled out : Bytes) → front ≡ fieldsStored 0 5 (headWith s t) d → middle ≡ fieldsStored 5 9 (headWith s t) front
+      → scaling ≡ part 131 48 s → scaled ≡ sets middle 131 scaling → out ≡ sets scaled 179 (numbersBytes 8 (boundNumbers (t .bounds))) → out ≡ sets d 0 (headBytes s t)
   unfolding headWith
-  head-stored d front middle scaled out by-front by-middle by-scaling by-bounds =
-      rw (by-bounds, by-scaling, by-middle, by-front, ← carried-scaling s, whole-head)
+  head-stored d front middle scaling scaled out by-front by-middle read by-scaling by-bounds =
+      rw (by-bounds, by-scaling, by-middle, by-front, read, ← carried-scaling s, whole-head)
       (stores-join headWidths (headFields (headWith s t)) d 0 (head-fits (headWith s t) fitting))

@@ -9,13 +9,14 @@ use lib.ListN.{length, drop, length-drop}
 use lib.Seq.{sets, take-all}
 use Rattle.fields.specs.Lists.{kept, total}
 use Rattle.fields.specs.Bytes.{Bytes, AllBytes, part, join}
-use Rattle.fields.proofs.ByteLaws.{num-part-lt, drop-bytes}
+use Rattle.fields.proofs.ByteLaws.{drop-bytes}
 use Rattle.fields.proofs.ListLaws.{kept-here, kept-past}
 use Rattle.fields.proofs.StoreLaws.{sets-append}
 use Rattle.records.specs.Records.{Record, recordAt, sizeOf, places, walk, recordBytes, recordLen, recordsBytes}
 use Rattle.records.proofs.RecordLaws.{walk-step, length-recordBytes}
 use Rattle.headerfields.specs.HeaderFields.{headerBlock, headerSize, recordCount}
-use Rattle.publicpart.specs.Public.{keptRecord, publicOf, restrict, contents}
+use Rattle.publicpart.specs.Public.{keptRecord, publicOf}
+use Rattle.publicpart.proofs.PublicLaws.{contents-records, public-records}
 use Rattle.keptrecords.specs.declared.KeptRecords.{KeptRecords}
 use Rattle.keptrecords.specs.KeptRecords.{measured}
 use Rattle.keptrecords.proofs.RecordPartLaws.{sound, length-low}
@@ -35,9 +36,8 @@ module _ (sheet s : Bytes) where
   abbrev pub rest : ℕ → ℕ → List Record
   rest left at = kept (keptRecord sheet) (walk 2 left at s)
 
-  rest-all : rest (recordCount s) (headerSize s) ≡ publicOf sheet s .records
-  unfolding publicOf restrict contents
-  rest-all = refl
+  rest-first : (left at : ℕ) → left ≡ recordCount s → at ≡ headerSize s → rest left at ≡ publicOf sheet s .records
+  rest-first left at l a = rw (l, a) (sym (public-records sheet s ∙ ap (kept (keptRecord sheet)) (contents-records s)))
 
   -- the record at hand is kept, or passed over
   rest-kept : (left at : ℕ) → 0 < left → keptRecord sheet (recordAt 2 s at) ≡ true
@@ -57,15 +57,6 @@ module _ (sheet s : Bytes) where
   rest-none zero at h = refl
   rest-none (suc left) at h = absurd (omega arith)
 
--- what a walk begins with
-few-records : (s : Bytes) → AllBytes s → recordCount s < 2 ^ 32
-unfolding recordCount
-few-records s bytes = num-part-lt 100 4 s bytes
-
-low-start : (s : Bytes) → AllBytes s → headerSize s < 2 ^ 16
-unfolding headerSize
-low-start s bytes = num-part-lt 94 2 s bytes
-
 -- ---- measuring
 
 pub record Measuring (sheet s : Bytes) (left at count size : ℕ) : Type 0 where
@@ -75,14 +66,15 @@ pub record Measuring (sheet s : Bytes) (left at count size : ℕ) : Type 0 where
   pub place : Low at left
   pub low : Low size left
 
-pub measuring-begins : (sheet s : Bytes) → AllBytes s → (left at : ℕ) → left ≡ recordCount s → at ≡ headerSize s → Measuring sheet s left at 0 0
-measuring-begins sheet s bytes left at l a =
-    rw (l, a) record {
-      counted = omega (arith, ap length (rest-all sheet s));
-      summed = omega (arith, ap (total (recordLen 2)) (rest-all sheet s));
-      few = omega (arith, few-records s bytes);
-      place = omega (arith, few-records s bytes, low-start s bytes);
-      low = omega (arith, few-records s bytes);
+pub measuring-begins : (sheet s : Bytes) (left at : ℕ) → (left ≡ recordCount s) × (left < 2 ^ 32) → (at ≡ headerSize s) × (at < 2 ^ 16) → Measuring sheet s left at 0 0
+measuring-begins sheet s left at l a =
+    let all = rest-first sheet s left at (l .0) (a .0) in
+    record {
+      counted = omega (arith, ap length all);
+      summed = omega (arith, ap (total (recordLen 2)) all);
+      few = omega arith;
+      place = omega arith;
+      low = omega arith;
     }
 
 module _ (sheet s : Bytes) (bytes : AllBytes s) (left at count size : ℕ) (more : 0 < left) (small : sizeOf 2 (drop at s) < 2 ^ 17) (m : Measuring sheet s left at count size) where
@@ -128,13 +120,14 @@ pub record Copying (sheet s out₀ out : Bytes) (left at to : ℕ) : Type 0 wher
   pub place : Low at left
   pub low : Low to left
 
-pub copying-begins : (sheet s out : Bytes) → AllBytes s → (left at : ℕ) → left ≡ recordCount s → at ≡ headerSize s → Copying sheet s out out left at headerBlock
-copying-begins sheet s out bytes left at l a =
-    rw (l, a) record {
-      whole = ap (λ (rs : List Record). sets out headerBlock (recordsBytes 2 rs)) (rest-all sheet s);
+pub copying-begins : (sheet s out : Bytes) (left at : ℕ) → (left ≡ recordCount s) × (left < 2 ^ 32) → (at ≡ headerSize s) × (at < 2 ^ 16)
+    → Copying sheet s out out left at headerBlock
+copying-begins sheet s out left at l a =
+    record {
+      whole = ap (λ (rs : List Record). sets out headerBlock (recordsBytes 2 rs)) (rest-first sheet s left at (l .0) (a .0));
       same = refl;
-      place = omega (arith, few-records s bytes, low-start s bytes);
-      low = omega (arith, few-records s bytes);
+      place = omega arith;
+      low = omega arith;
     }
 
 module _ (sheet s out₀ out : Bytes) (bytes : AllBytes s) (left at to : ℕ) (more : 0 < left) (small : sizeOf 2 (drop at s) < 2 ^ 17) (c : Copying sheet s out₀ out left at to) where

@@ -46,8 +46,8 @@ fn written_length(vlr: &[u8]) -> usize
 pub fn measure(file: &[u8], sheet: &[u8]) -> KeptRecords
     ensures { λ r. ⌜ r ≡ measured (publicOf (now (sheet .entry)) (now (file .entry)) .records) ⌝ }
 {
-    let mut at = number_at(file, 94, 2) as usize;
-    let mut left = number_at(file, 100, 4);
+    let mut at = headerfields::header_size(file);
+    let mut left = headerfields::record_count(file);
     let mut count = 0;
     let mut length = 0;
     while 0 < left {
@@ -103,8 +103,8 @@ fn put_record_at(vlr: &[u8], out: &mut [u8], to: usize)
 pub fn copy_records(file: &[u8], sheet: &[u8], out: &mut [u8])
     ensures { λ _. ⌜ now (out .exit) ≡ sets (now (out .entry)) headerBlock (recordsBytes 2 (publicOf (now (sheet .entry)) (now (file .entry)) .records)) ⌝ }
 {
-    let mut at = number_at(file, 94, 2) as usize;
-    let mut left = number_at(file, 100, 4);
+    let mut at = headerfields::header_size(file);
+    let mut left = headerfields::record_count(file);
     let mut to = HEADER_BLOCK;
     while 0 < left {
         let vlr = runs::part_at(file, at, file.len());

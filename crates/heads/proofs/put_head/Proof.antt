@@ -1,5 +1,5 @@
 -- `heads::put_head` meets its contract: each group is written behind the one before it. Assumes nothing.
-use mathlib.Core.Path.{sym, ap, _∙_}
+use mathlib.Core.Path.{sym, ap}
 use native.Mathlib.Omega.{arith}
 use lib.Seq.{sets}
 use Rattle.publicpart.specs.Bounds.{boundNumbers}
@@ -21,8 +21,9 @@ returns-2 c =
     let long = front .before .before in
     let a = long .before .before .before .args in
     let s = a .source .now in
-    head-stored s (a .totals) (long .if1 .left) (a .out .now) _ _ _ _ (front .put-front .ensures (a .totals)) (middle .put-middle .ensures)
-    (scaling .copy .ensures ∙ ap (sets _ 131) (scaling .before .before .part-at .ensures))
+    head-stored s (a .totals) (long .if1 .left) (a .out .now) _ _ _ _ _ (front .put-front .ensures (a .totals)) (middle .put-middle .ensures)
+    (scaling .before .before .part-at .ensures)
+    (scaling .copy .ensures)
     (bounds .put-numbers .ensures)
 
 pub put-head-spec : {M : Type 1} → statement M

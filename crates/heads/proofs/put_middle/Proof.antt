@@ -30,11 +30,11 @@ returns c =
     ▸ (refl, ap (bytesOf 2) (year .number-at2 .ensures .0 ∙ sym (carried-year s)))
     ▸ (each-stored 2 (year .before .number-at .result ∷ year .number-at2 .result ∷ headerBlock ∷ []) (a .out .now) 90 (dates .put-numbers .ensures), refl)
     ▸ (refl, refl)
-    ▸ (each-stored 4 (a .totals .offset ∷ a .totals .records ∷ []) _ 96 (places .put-numbers2 .ensures), refl)
+    ▸ (each-stored 4 (a .totals .offset ∷ a .totals .records ∷ []) (dates .put-numbers .last .0) 96 (places .put-numbers2 .ensures), refl)
     ▸ (format .put-number .ensures, ap (bytesOf 1) (format .before .format .ensures .0 ∙ sym (carried-format s)))
     ▸ (length .put-number2 .ensures, ap (bytesOf 2) (length .before .record-length .ensures .0 ∙ sym (carried-length s)))
     ▸ (refl, refl)
-    ▸ (counts .put-numbers3 .ensures ∙ stored-next _ 107 4 (a .totals .points) (binNumbers (a .totals .bins)), refl)
+    ▸ (counts .put-numbers3 .ensures ∙ stored-next (length .put-number2 .last .0) 107 4 (a .totals .points) (binNumbers (a .totals .bins)), refl)
     ▸ refl
     )
 

@@ -3,11 +3,9 @@
 use mathlib.Core.Path.{sym, ap, _∙_}
 use mathlib.Core.Logic.{⊎-elim}
 use native.Mathlib.Omega.{arith}
-use borrow.Author.Needs.{needs}
 use lib.Seq.{sets}
 use Rattle.fields.specs.Bytes.{Bytes, AllBytes}
 use Rattle.records.specs.Records.{recordOf, recordLen, recordBytes}
-use Rattle.headerfields.specs.HeaderFields.{recordCount, headerSize}
 use Rattle.publicpart.specs.Public.{keptRecord}
 use Rattle.keptrecords.proofs.KeptLaws.{from-place, Copying, copying-begins, copying-kept, copying-past, copying-ends}
 use Rattle.keptrecords.proofs.copy_records.Statement.{statement}
@@ -19,38 +17,16 @@ Inv-loop file sheet out₀ at₀ left₀ to₀ out at left to = AllBytes file ×
 abbrev μ-loop : tie.MeasureT-loop
 μ-loop file sheet out₀ at₀ left₀ to₀ out at left to = left
 
-number-at-requires : tie.Need-number-at-requires Inv-loop μ-loop
-number-at-requires c κs = search needs
-
-number-at-requires-2 : tie.Need-number-at-requires-2 Inv-loop μ-loop
-number-at-requires-2 c κs = search needs
-
 loop-holds : tie.Need-loop-holds Inv-loop μ-loop
-unfolding recordCount headerSize
 loop-holds c =
     let a = c .before .before .before .before .before .args in
     let bytes : AllBytes (a .file .now) = λ i. omega (arith, c .before .before .before .before .shared-slice-known .given i) in (
       bytes,
-      copying-begins (a .sheet .now) (a .file .now) (a .out .now) bytes _ _ (c .number-at2 .ensures .0) (c .before .number-at .ensures .0),
+      copying-begins (a .sheet .now) (a .file .now) (a .out .now) _ _ (c .record-count .ensures) (c .before .header-size .ensures),
     )
-
-part-at-requires : tie.Need-part-at-requires Inv-loop μ-loop
-part-at-requires c κs = search needs
-
-keeps-requires : tie.Need-keeps-requires Inv-loop μ-loop
-keeps-requires c κs = search needs
-
-put-record-at-requires : tie.Need-put-record-at-requires Inv-loop μ-loop
-put-record-at-requires c κs = search needs
-
-written-length-requires : tie.Need-written-length-requires Inv-loop μ-loop
-written-length-requires c κs = search needs
 
 add-to : tie.Need-add-to Inv-loop μ-loop
 add-to c = let l = c .before .before .before .before .before .before .before .before .before .loop in omega (arith, l .inv .1 .low, c .written-length .ensures .1)
-
-size-at-requires : tie.Need-size-at-requires Inv-loop μ-loop
-size-at-requires c κs = search needs
 
 add-at : tie.Need-add-at Inv-loop μ-loop
 add-at c = let l = c .before .before .before .before .before .loop in omega (arith, l .inv .1 .place, c .size-at .ensures .1)
@@ -94,15 +70,15 @@ copy-records-spec =
     (tie.spec
     Inv-loop
     μ-loop
-    number-at-requires
-    number-at-requires-2
+    (λ c κs. tt)
+    (λ c κs. tt)
     loop-holds
-    part-at-requires
-    keeps-requires
-    put-record-at-requires
-    written-length-requires
+    (λ c κs. tt)
+    (λ c κs. tt)
+    (λ c κs. tt)
+    (λ c κs. tt)
     add-to
-    size-at-requires
+    (λ c κs. tt)
     add-at
     sub-left
     loop-less

@@ -3,10 +3,8 @@
 use mathlib.Core.Path.{sym, ap, _∙_}
 use mathlib.Core.Logic.{⊎-elim}
 use native.Mathlib.Omega.{arith}
-use borrow.Author.Needs.{needs}
 use Rattle.fields.specs.Bytes.{Bytes, AllBytes}
 use Rattle.records.specs.Records.{recordOf, recordLen}
-use Rattle.headerfields.specs.HeaderFields.{recordCount, headerSize}
 use Rattle.publicpart.specs.Public.{keptRecord}
 use Rattle.keptrecords.proofs.KeptLaws.{from-place, Measuring, measuring-begins, measuring-kept, measuring-past, measuring-ends}
 use Rattle.keptrecords.proofs.measure.Statement.{statement}
@@ -18,38 +16,19 @@ Inv-loop file sheet at₀ left₀ count₀ length₀ at left count length = AllB
 abbrev μ-loop : tie.MeasureT-loop
 μ-loop file sheet at₀ left₀ count₀ length₀ at left count length = left
 
-number-at-requires : tie.Need-number-at-requires Inv-loop μ-loop
-number-at-requires c κs = search needs
-
-number-at-requires-2 : tie.Need-number-at-requires-2 Inv-loop μ-loop
-number-at-requires-2 c κs = search needs
-
 loop-holds : tie.Need-loop-holds Inv-loop μ-loop
-unfolding recordCount headerSize
 loop-holds c =
     let a = c .before .before .before .before .args in
     let bytes : AllBytes (a .file .now) = λ i. omega (arith, c .before .before .before .shared-slice-known .given i) in (
       bytes,
-      measuring-begins (a .sheet .now) (a .file .now) bytes _ _ (c .number-at2 .ensures .0) (c .before .number-at .ensures .0),
+      measuring-begins (a .sheet .now) (a .file .now) _ _ (c .record-count .ensures) (c .before .header-size .ensures),
     )
-
-part-at-requires : tie.Need-part-at-requires Inv-loop μ-loop
-part-at-requires c κs = search needs
-
-keeps-requires : tie.Need-keeps-requires Inv-loop μ-loop
-keeps-requires c κs = search needs
 
 add-count : tie.Need-add-count Inv-loop μ-loop
 add-count c = let l = c .before .before .before .before .loop in omega (arith, l .inv .1 .few)
 
-written-length-requires : tie.Need-written-length-requires Inv-loop μ-loop
-written-length-requires c κs = search needs
-
 add-length : tie.Need-add-length Inv-loop μ-loop
 add-length c = let l = c .before .before .before .before .before .loop in omega (arith, l .inv .1 .low, c .written-length .ensures .1)
-
-size-at-requires : tie.Need-size-at-requires Inv-loop μ-loop
-size-at-requires c κs = search needs
 
 add-at : tie.Need-add-at Inv-loop μ-loop
 add-at c = let l = c .before .before .before .before .before .loop in omega (arith, l .inv .1 .place, c .size-at .ensures .1)
@@ -89,15 +68,15 @@ measure-spec =
     (tie.spec
     Inv-loop
     μ-loop
-    number-at-requires
-    number-at-requires-2
+    (λ c κs. tt)
+    (λ c κs. tt)
     loop-holds
-    part-at-requires
-    keeps-requires
+    (λ c κs. tt)
+    (λ c κs. tt)
     add-count
-    written-length-requires
+    (λ c κs. tt)
     add-length
-    size-at-requires
+    (λ c κs. tt)
     add-at
     sub-left
     loop-less

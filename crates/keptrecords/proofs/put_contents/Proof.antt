@@ -1,39 +1,19 @@
 -- `keptrecords::put_contents` meets its contract. Assumes nothing.
-use mathlib.Core.Path.{_≡_, ap, _∙_}
+use mathlib.Core.Path.{_≡_, sym, ap, _∙_}
 use native.Mathlib.Omega.{arith}
 use denote.Ref.{now}
-use lib.ListN.{length}
-use Rattle.fields.specs.Bytes.{Bytes, AllBytes}
+use Rattle.fields.specs.Bytes.{AllBytes}
 use Rattle.fields.specs.Text.{cut, padded}
 use Rattle.records.specs.Records.{Record, recordOf}
-use Rattle.keptrecords.proofs.RecordPartLaws.{sound, content-stored}
+use Rattle.keptrecords.proofs.RecordPartLaws.{description-of, sound, content-stored}
 use borrow.Author.Needs.{needs}
 use Rattle.keptrecords.proofs.put_contents.Statement.{statement}
 use Rattle.keptrecords.proofs.put_contents.Tie as tie
 
-payload-of-requires : tie.Need-payload-of-requires
-payload-of-requires c κs = search needs
-
-put-number-requires : tie.Need-put-number-requires
-put-number-requires c κs = search needs
-
-part-at-requires : tie.Need-part-at-requires
-part-at-requires c κs = search needs
-
-put-text-requires : tie.Need-put-text-requires
-put-text-requires c κs = search needs
-
-copy-requires : tie.Need-copy-requires
-copy-requires c κs = search needs
-
-same-length : tie.Need-same-length
-same-length c = search needs
-
 -- the description that is written is the record's
 description-is : (c : tie.After-part-at)
     → padded 32 (cut (now (c .part-at .result))) ≡ padded 32 (recordOf 2 (now (c .before .before .before .before .before .before .before .before .before .args .vlr)) .description)
-unfolding recordOf
-description-is c = ap (λ (t : Bytes). padded 32 (cut t)) (c .part-at .ensures)
+description-is c = ap (padded 32) (ap cut (c .part-at .ensures) ∙ sym (description-of _))
 
 returns : tie.Need-returns
 returns c =
@@ -47,4 +27,4 @@ returns c =
 
 pub put-contents-spec : {M : Type 1} → statement M
 put-contents-spec =
-    tie.close (tie.spec payload-of-requires put-number-requires part-at-requires put-text-requires copy-requires same-length returns)
+    tie.close (tie.spec (λ c κs. tt) (λ c κs. tt) (λ c κs. tt) (λ c κs. tt) (λ c κs. tt) (λ c. search needs) returns)

@@ -11,21 +11,6 @@ use Rattle.keptrecords.proofs.put_record_at.Tie as tie
 returns : tie.Need-returns
 returns c = let a = c .before .before .before .args in sym (sets-out (now (a .out)) (a .to) (recordBytes 2 (recordOf 2 (now (a .vlr)))) (omega arith))
 
-sub-put-record : tie.Need-sub-put-record
-sub-put-record c = search needs
-
-part-put-record-start : tie.Need-part-put-record-start
-part-put-record-start c = search needs
-
-part-put-record-end : tie.Need-part-put-record-end
-part-put-record-end c = search needs
-
-put-record-requires : tie.Need-put-record-requires
-put-record-requires c κs = search needs
-
-same-length : tie.Need-same-length
-same-length c = search needs
-
 returns-2 : tie.Need-returns-2
 returns-2 c =
     let a = c .before .before .before .before .before .before .before .args in
@@ -33,4 +18,4 @@ returns-2 c =
 
 pub put-record-at-spec : {M : Type 1} → statement M
 put-record-at-spec =
-    tie.close (tie.spec returns sub-put-record part-put-record-start part-put-record-end put-record-requires same-length returns-2)
+    tie.close (tie.spec returns (λ c. search needs) (λ c. search needs) (λ c. search needs) (λ c κs. tt) (λ c. search needs) returns-2)

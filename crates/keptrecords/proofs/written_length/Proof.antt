@@ -11,12 +11,6 @@ use borrow.Author.Needs.{needs}
 use Rattle.keptrecords.proofs.written_length.Statement.{statement}
 use Rattle.keptrecords.proofs.written_length.Tie as tie
 
-payload-of-requires : tie.Need-payload-of-requires
-payload-of-requires c κs = search needs
-
-add-result : tie.Need-add-result
-add-result c = search needs
-
 returns : tie.Need-returns
 unfolding recordLen
 returns c =
@@ -26,4 +20,4 @@ returns c =
     (long, omega (arith, long, length-low v bytes))
 
 pub written-length-spec : {M : Type 1} → statement M
-written-length-spec = tie.close (tie.spec payload-of-requires add-result returns)
+written-length-spec = tie.close (tie.spec (λ c κs. tt) (λ c. search needs) returns)
