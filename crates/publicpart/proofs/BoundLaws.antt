@@ -1,13 +1,10 @@
--- Laws of counts and bounds as they are written: their lengths, and each number at its place.
+-- Laws of counts and bounds: how many there are, and the bounds in the header's order.
 -- Assumes nothing.
-use mathlib.Core.Path.{_≡_, refl, ap, _∙_}
-use Prim.Native.Nat.{ℕ, zero, suc, _+_, _*_, _<_}
-use native.Mathlib.Nat.{not-suc-le-zero}
-use native.Mathlib.Omega.{arith}
+use mathlib.Core.Path.{_≡_, refl, ap}
+use Prim.Native.Nat.{ℕ, zero, suc}
 use mathlib.Core.List.{List, [], _∷_, map}
-use lib.ListN.{length, getD, length-append, length-map}
-use Rattle.fields.specs.Bytes.{Bytes, part, join, bytesOf, zeros}
-use Rattle.fields.proofs.ByteLaws.{length-bytesOf, part-front, part-behind}
+use lib.ListN.{length, length-map}
+use Rattle.fields.specs.Bytes.{Bytes, join, bytesOf, zeros}
 use Rattle.numberruns.specs.NumberRuns.{numbersBytes}
 use Rattle.doubles.specs.Coordinate.{coordinateBits}
 use Rattle.scaling.specs.Scaling.{boundsOf}

@@ -2,7 +2,7 @@
 use mathlib.Core.Path.{_≡_, sym, ap, _∙_}
 use native.Mathlib.Omega.{arith}
 use denote.Ref.{now}
-use Rattle.fields.specs.Bytes.{AllBytes}
+use Rattle.fields.specs.Bytes.{AllBytes, part}
 use Rattle.fields.specs.Text.{cut, padded}
 use Rattle.records.specs.Records.{Record, recordOf}
 use Rattle.keptrecords.proofs.RecordPartLaws.{description-of, sound, content-stored}
@@ -13,7 +13,10 @@ use Rattle.keptrecords.proofs.put_contents.Tie as tie
 -- the description that is written is the record's
 description-is : (c : tie.After-part-at)
     → padded 32 (cut (now (c .part-at .result))) ≡ padded 32 (recordOf 2 (now (c .before .before .before .before .before .before .before .before .before .args .vlr)) .description)
-description-is c = ap (padded 32) (ap cut (c .part-at .ensures) ∙ sym (description-of _))
+description-is c =
+    let v = now (c .before .before .before .before .before .before .before .before .before .args .vlr) in
+    let read : now (c .part-at .result) ≡ part 22 32 v = c .part-at .ensures in
+    ap (padded 32) (ap cut read ∙ sym (description-of v))
 
 returns : tie.Need-returns
 returns c =
