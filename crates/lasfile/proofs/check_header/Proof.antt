@@ -1,5 +1,5 @@
 -- `lasfile::check_header` meets its contract. Assumes nothing.
-use mathlib.Core.Path.{_≡_, refl, sym, _∙_}
+use mathlib.Core.Path.{_≡_, refl, sym, ap, _∙_}
 use mathlib.Core.Bool.{Bool}
 use mathlib.Core.Logic.{inl, inr}
 use mathlib.Core.List.{[], _∷_}
@@ -15,21 +15,22 @@ use borrow.Author.Needs.{needs}
 use Rattle.lasfile.proofs.check_header.Statement.{statement}
 use Rattle.lasfile.proofs.check_header.Tie as tie
 
--- what was compared: a part of the file with a text of the code
-compared : (r : Bool) (x y p t : Bytes) → r ≡ same x y → x ≡ p → y ≡ t → r ≡ same p t
-compared r x y p t e q u = rw (e, q, u)
-
-two-bytes : (t : Bytes) → length t ≡ 2 → getD t 0 0 ≡ 1 → getD t 1 0 ≡ 2 → t ≡ version
-two-bytes [] n major minor = absurd (omega arith)
-two-bytes (a ∷ []) n major minor = absurd (omega arith)
-two-bytes (a ∷ b ∷ []) n major minor = rw (major, minor)
-two-bytes (a ∷ b ∷ c ∷ t) n major minor = absurd (omega arith)
-
+-- what was compared
 sign-compared : (c : tie.After-same-bytes) → c .same-bytes .result ≡ same (part 0 4 (now (c .before .before .before .before .before .args .file))) signature
-sign-compared c = compared _ _ _ _ signature (c .same-bytes .ensures) (c .before .before .part-at .ensures) refl
+sign-compared c =
+    let found : c .same-bytes .result ≡ same (now (c .before .before .part-at .result)) signature = c .same-bytes .ensures in
+    found ∙ ap (λ (p : Bytes). same p signature) (c .before .before .part-at .ensures)
+
+-- byte by byte, so that a wrong one is named
+with-version : (r : Bool) (x t : Bytes) → r ≡ same x t → length t ≡ 2 → getD t 0 0 ≡ 1 → getD t 1 0 ≡ 2 → r ≡ same x version
+with-version r x [] e n major minor = absurd (omega arith)
+with-version r x (a ∷ []) e n major minor = absurd (omega arith)
+with-version r x (a ∷ b ∷ []) e n major minor = rw (e, major, minor)
+with-version r x (a ∷ b ∷ c ∷ t) e n major minor = absurd (omega arith)
 
 version-compared : (c : tie.After-same-bytes2) → c .same-bytes2 .result ≡ same (part 24 2 (now (c .before .before .before .before .before .before .before .before .before .args .file))) version
-version-compared c = compared _ _ _ _ version (c .same-bytes2 .ensures) (c .before .before .part-at2 .ensures) (two-bytes _ refl refl refl)
+version-compared c =
+    with-version _ _ _ (c .same-bytes2 .ensures) refl refl refl ∙ ap (λ (p : Bytes). same p version) (c .before .before .part-at2 .ensures)
 
 signed : (c : tie.Else2) → part 0 4 (now (c .before .before .before .before .before .before .args .file)) ≡ signature
 signed c = agrees _ _ _ signature (sign-compared (c .before)) refl (not-false _ (c .if2 .left))

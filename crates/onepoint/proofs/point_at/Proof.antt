@@ -54,10 +54,10 @@ module _ (s : Bytes) (index : ℕ) where
           omega (arith, more, e, passed s passes .pointed)
 
       -- and is decoded
-      decoded-here : decoded (format s) (recordLength s) (part (pointPlace s index) (recordLength s) s)
-          ≡ Fields (pointOf (format s) (part (pointPlace s index) (recordLength s) s))
-      decoded-here =
-          decodes (format s) (recordLength s) _ (length-part (pointPlace s index) (recordLength s) s in-file) (passed s passes .recordLow) (passed s passes .formatted)
+      decoded-here : (f n : ℕ) (b : Bytes) → f ≡ format s → n ≡ recordLength s → b ≡ part (pointPlace s index) n s
+          → decoded f n b ≡ Fields (pointOf (format s) (part (pointPlace s index) (recordLength s) s))
+      decoded-here f n b e l p =
+          rw (p, e, l) (decodes (format s) (recordLength s) _ (length-part (pointPlace s index) (recordLength s) s in-file) (passed s passes .recordLow) (passed s passes .formatted))
 
 passes-at : (c : tie.After-enum-told) → fileVerdict (now (c .before .before .before .before .args .file)) ≡ Passes
 passes-at c = sym (c .before .before .check-file .ensures) ∙ c .enum-told .given .1
@@ -72,9 +72,14 @@ result-is : (c : tie.After-decode)
 unfolding pointPlace
 result-is c =
     let s = now (c .before .before .before .before .before .before .before .before .before .before .before .args .file) in
-    c .decode .ensures
-    ∙ rw (c .before .part-at .ensures, c .before .before .format .ensures .0, c .before .before .before .point-offset .ensures .0, c .before .before .before .before .record-length .ensures .0)
-    (decoded-here s (c .before .before .before .before .before .before .before .before .before .before .before .args .index) (passes-at (c .before .before .before .before .before .before .before)) (below-at (c .before .before .before .before .before)))
+    let index = c .before .before .before .before .before .before .before .before .before .before .before .args .index in
+    let length = c .before .before .before .before .record-length .ensures .0 in
+    let bytes : c .before .part-at .result .now ≡ part (pointPlace s index) (c .before .before .before .before .record-length .result) s =
+    c .before .part-at .ensures ∙ rw (c .before .before .before .point-offset .ensures .0, length) in
+    let read : c .decode .result ≡ decoded (c .before .before .format .result) (c .before .before .before .before .record-length .result) (c .before .part-at .result .now) =
+    c .decode .ensures in
+    read
+    ∙ decoded-here s index (passes-at (c .before .before .before .before .before .before .before)) (below-at (c .before .before .before .before .before)) _ _ _ (c .before .before .format .ensures .0) length bytes
 
 returns : tie.Need-returns
 returns c = sym (refused-by-file _ _ _ (sym (c .before .before .before .check-file .ensures) ∙ c .before .verdict .given .1))

@@ -71,8 +71,11 @@ places-at-requires c κs =
     omega (arith, ends-by c, front-in-size 2 (drop (a .self .position) (now (a .file))), c .before .before .point-offset .ensures)
 
 add-next : tie.Need-add-next
+unfolding recordPlaces
 add-next c =
-    omega (arith, next-place _ _ _ (c .before .places-at .ensures), ends-by (c .before .before), c .before .before .before .before .point-offset .ensures)
+    let a = c .before .before .before .before .before .before .before .before .before .before .before .before .before .args in
+    rw (c .before .places-at .ensures)
+    (omega (arith, size-of 2 (drop (a .self .position) (now (a .file))), ends-by (c .before .before), c .before .before .before .before .point-offset .ensures))
 
 returns-5 : tie.Need-returns-5
 returns-5 c =
