@@ -1,16 +1,31 @@
 -- `geokeys::find` meets its contract. Assumes nothing.
 use mathlib.Core.Path.{_≡_, sym, ap, _∙_}
+use Prim.Native.Nat.{ℕ}
+use mathlib.Core.Option.{none, some}
 use native.Mathlib.Omega.{arith}
 use denote.Ref.{now}
 use Rattle.fields.specs.Bytes.{Bytes}
 use Rattle.fields.specs.Checks.{firstFailing}
 use Rattle.fields.specs.declared.Verdict.the-variants.{Passes}
 use Rattle.lasfile.specs.FileChecks.{fileVerdict}
-use Rattle.geokeys.specs.GeoKeys.{directoryChecks, entryOf, answerIf, fromEntry, fromDirectory, lookup}
+use Rattle.geokeys.specs.GeoKeys.{projectionPlace, payloadAt, directoryChecks, entryOf, answerIf, fromEntry, fromDirectory, lookup}
+use Rattle.geokeys.specs.declared.GeoKey.{GeoKey}
+use Rattle.geokeys.specs.declared.GeoKey.the-variants.{Refused}
 use Rattle.geokeys.proofs.SearchLaws.{answer-passes, answer-fails, placed, nowhere, low-place}
 use borrow.Author.Needs.{needs}
 use Rattle.geokeys.proofs.find.Statement.{statement}
 use Rattle.geokeys.proofs.find.Tie as tie
+
+-- the answer where the file passes, with a directory and without
+module _ (s : Bytes) (key : ℕ) (passes : fileVerdict s ≡ Passes) where
+  in-directory : (at : ℕ) (d : Bytes) (r : GeoKey) → projectionPlace s 34735 ≡ some at → d ≡ payloadAt s at
+      → r ≡ answerIf (firstFailing (directoryChecks d)) (fromEntry s (entryOf d key)) → r ≡ lookup s key
+  unfolding lookup fromDirectory
+  in-directory at d r found p e = e ∙ rw p (sym (answer-passes _ _ passes ∙ ap (fromDirectory s key) found))
+
+  no-directory : projectionPlace s 34735 ≡ none → lookup s key ≡ Refused 40
+  unfolding lookup fromDirectory
+  no-directory found = answer-passes _ _ passes ∙ ap (fromDirectory s key) found
 
 passed : (c : tie.After-enum-told) → fileVerdict (now (c .before .before .before .before .args .file)) ≡ Passes
 passed c = sym (c .before .before .check-file .ensures) ∙ c .enum-told .given .1
@@ -29,20 +44,13 @@ from-directory-requires : tie.Need-from-directory-requires
 from-directory-requires c κs = passed (c .before .before .before .before .before)
 
 returns-2 : tie.Need-returns-2
-unfolding lookup fromDirectory
 returns-2 c =
-    let a = c .before .before .before .before .before .before .before .before .before .before .args in
     let found = placed _ _ _ (c .before .before .before .before .before .find-projection .ensures .0) (c .before .before .before .found .given .1) in
-    c .from-directory .ensures
-    ∙ ap (λ (d : Bytes). answerIf (firstFailing (directoryChecks d)) (fromEntry (now (a .file)) (entryOf d (a .key)))) (c .before .payload-at .ensures)
-    ∙ sym (answer-passes _ _ (passed (c .before .before .before .before .before .before)) ∙ ap (fromDirectory (now (a .file)) (a .key)) found)
+    in-directory _ _ (passed (c .before .before .before .before .before .before)) _ _ _ found (c .before .payload-at .ensures) (c .from-directory .ensures)
 
 returns-3 : tie.Need-returns-3
-unfolding lookup fromDirectory
 returns-3 c =
-    let a = c .before .before .before .before .before .before .before .args in
-    let none = nowhere _ _ (c .before .before .find-projection .ensures .0) (c .enum-told2 .given .1) in
-    sym (answer-passes _ _ (passed (c .before .before .before)) ∙ ap (fromDirectory (now (a .file)) (a .key)) none)
+    sym (no-directory _ _ (passed (c .before .before .before)) (nowhere _ _ (c .before .before .find-projection .ensures .0) (c .enum-told2 .given .1)))
 
 pub find-spec : {M : Type 1} → statement M
 find-spec =

@@ -1,15 +1,30 @@
 -- `geokeys::from_directory` meets its contract. Assumes nothing.
 use mathlib.Core.Path.{_≡_, sym, ap, _∙_}
-use mathlib.Core.Option.{some}
+use mathlib.Core.Option.{none, some}
+use Prim.Native.Nat.{ℕ}
 use denote.Ref.{now}
 use Rattle.fields.specs.Bytes.{Bytes}
 use Rattle.fields.specs.Checks.{firstFailing}
 use Rattle.fields.specs.declared.Verdict.the-variants.{Passes}
-use Rattle.geokeys.specs.GeoKeys.{directoryChecks, fromEntry}
+use Rattle.geokeys.specs.GeoKeys.{directoryChecks, entryOf, answerIf, fromEntry}
+use Rattle.geokeys.specs.declared.GeoKey.{GeoKey}
+use Rattle.geokeys.specs.declared.GeoKey.the-variants.{Refused}
 use Rattle.geokeys.proofs.SearchLaws.{answer-passes, answer-fails, entry-placed, no-entry}
 use borrow.Author.Needs.{needs}
 use Rattle.geokeys.proofs.from_directory.Statement.{statement}
 use Rattle.geokeys.proofs.from_directory.Tie as tie
+
+-- the answer where the directory passes, with an entry of the key and without
+module _ (s d : Bytes) (key : ℕ) (passes : firstFailing (directoryChecks d) ≡ Passes) where
+  abbrev answer : GeoKey
+  answer = answerIf (firstFailing (directoryChecks d)) (fromEntry s (entryOf d key))
+
+  by-entry : (e x : Bytes) (r : GeoKey) → entryOf d key ≡ some e → x ≡ e → r ≡ fromEntry s (some x) → r ≡ answer
+  by-entry e x r found p q = q ∙ rw p (sym (answer-passes _ _ passes ∙ ap (fromEntry s) found))
+
+  no-key : entryOf d key ≡ none → answer ≡ Refused 42
+  unfolding fromEntry
+  no-key found = answer-passes _ _ passes ∙ ap (fromEntry s) found
 
 passed : (c : tie.After-enum-told) → firstFailing (directoryChecks (now (c .before .before .before .before .before .args .directory))) ≡ Passes
 passed c = sym (c .before .before .check-directory .ensures) ∙ c .enum-told .given .1
@@ -19,18 +34,12 @@ returns c = sym (answer-fails _ _ _ (sym (c .before .before .before .check-direc
 
 returns-2 : tie.Need-returns-2
 returns-2 c =
-    let a = c .before .before .before .before .before .before .before .before .before .before .before .args in
     let found = entry-placed _ _ _ _ (c .before .before .before .before .before .find-entry .ensures) (c .before .before .before .found .given .1) in
-    c .from-entry .ensures
-    ∙ ap (λ (e : Bytes). fromEntry (now (a .file)) (some e)) (c .before .part-at .ensures)
-    ∙ sym (answer-passes _ _ (passed (c .before .before .before .before .before .before)) ∙ ap (fromEntry (now (a .file))) found)
+    by-entry _ _ _ (passed (c .before .before .before .before .before .before)) _ _ _ found (c .before .part-at .ensures) (c .from-entry .ensures)
 
 returns-3 : tie.Need-returns-3
-unfolding fromEntry
 returns-3 c =
-    let a = c .before .before .before .before .before .before .before .before .args in
-    let none = no-entry _ _ _ (c .before .before .find-entry .ensures) (c .enum-told2 .given .1) in
-    sym (answer-passes _ _ (passed (c .before .before .before)) ∙ ap (fromEntry (now (a .file))) none)
+    sym (no-key _ _ _ (passed (c .before .before .before)) (no-entry _ _ _ (c .before .before .find-entry .ensures) (c .enum-told2 .given .1)))
 
 pub from-directory-spec : {M : Type 1} → statement M
 from-directory-spec =

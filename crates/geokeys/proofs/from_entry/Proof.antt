@@ -1,7 +1,7 @@
 -- `geokeys::from_entry` meets its contract. Assumes nothing.
 use mathlib.Core.Path.{_≡_, sym, ap, _∙_, subst}
 use mathlib.Core.Bool.{Bool, true, false, _||_}
-use mathlib.Core.Option.{some}
+use mathlib.Core.Option.{Option, none, some}
 use Prim.Native.Nat.{ℕ}
 use native.Mathlib.Omega.{arith}
 use borrow.Author.Tests.{not-true, not-false, eq-eqb, ne-eqb}
@@ -11,7 +11,8 @@ use Rattle.fields.specs.Bytes.{Bytes}
 use Rattle.fields.specs.Checks.{firstFailing}
 use Rattle.fields.specs.declared.Verdict.the-variants.{Passes}
 use Rattle.fields.proofs.CheckLaws.{first-fails, first-clear, all-clear}
-use Rattle.geokeys.specs.GeoKeys.{projectionPlace, locationOf, countOf, offsetOf, entryChecks, either, doubleIn, textIn, inParameters, fromEntry}
+use Rattle.geokeys.specs.GeoKeys.{projectionPlace, payloadAt, locationOf, countOf, offsetOf, entryChecks, either, doubleIn, textIn, inParameters, fromEntry}
+use Rattle.geokeys.specs.declared.GeoKey.{GeoKey}
 use Rattle.geokeys.specs.declared.GeoKey.the-variants.{Value, Refused}
 use Rattle.geokeys.proofs.SearchLaws.{answer-passes, answer-fails, either-first, either-second, placed, nowhere, low-place}
 use borrow.Author.Needs.{needs}
@@ -46,9 +47,20 @@ module _ (s e : Bytes) where
     unfolding fromEntry
     value l = answer-passes _ _ passes ∙ either-first _ _ _ (eq-eqb _ 0 l)
 
-    elsewhere : (locationOf e ≡ 0 → ⊥) → fromEntry s (some e) ≡ inParameters s e (projectionPlace s (locationOf e))
+    elsewhere : (l : ℕ) → l ≡ locationOf e → (l ≡ 0 → ⊥) → fromEntry s (some e) ≡ inParameters s e (projectionPlace s l)
     unfolding fromEntry
-    elsewhere l = answer-passes _ _ passes ∙ either-second _ _ _ (ne-eqb _ 0 l)
+    elsewhere l f h = rw f (answer-passes _ _ passes ∙ either-second _ _ _ (ne-eqb _ 0 (λ z. h (f ∙ z))))
+
+  -- the answer a by the parameter record, with one and without
+  module _ (a : GeoKey) (o : Option ℕ) (searches : a ≡ inParameters s e o) where
+    in-record : (at : ℕ) (p : Bytes) (r : GeoKey) → o ≡ some at → p ≡ payloadAt s at
+        → r ≡ either (eqb (locationOf e) 34736) (doubleIn e p) (textIn e at p) → r ≡ a
+    unfolding inParameters
+    in-record at p r found q h = h ∙ rw q (sym (searches ∙ ap (inParameters s e) found))
+
+    no-record : o ≡ none → a ≡ Refused 45
+    unfolding inParameters
+    no-record found = searches ∙ ap (inParameters s e) found
 
 -- what was read and tested, over the entry itself
 location-is : (c : tie.After-number-at2) → c .before .number-at .result ≡ locationOf (now (c .before .before .before .before .args .entry))
@@ -88,27 +100,16 @@ in-payload-requires c κs = low-place _ _ (c .before .before .found .given .1) (
 searched : (c : tie.Else3)
     → fromEntry (now (c .before .before .before .before .before .before .before .args .file)) (some (now (c .before .before .before .before .before .before .before .args .entry)))
     ≡ inParameters (now (c .before .before .before .before .before .before .before .args .file)) (now (c .before .before .before .before .before .before .before .args .entry)) (projectionPlace (now (c .before .before .before .before .before .before .before .args .file)) (c .before .before .before .before .number-at .result))
-searched c =
-    elsewhere _ _ (is-known (c .before .before)) (is-counted (c .before)) (λ l. c .if3 .left (location-is (c .before .before .before) ∙ l))
-    ∙ ap (λ (l : ℕ). inParameters (now (c .before .before .before .before .before .before .before .args .file)) (now (c .before .before .before .before .before .before .before .args .entry)) (projectionPlace (now (c .before .before .before .before .before .before .before .args .file)) l)) (sym (location-is (c .before .before .before)))
+searched c = elsewhere _ _ (is-known (c .before .before)) (is-counted (c .before)) _ (location-is (c .before .before .before)) (c .if3 .left)
 
 returns-4 : tie.Need-returns-4
-unfolding inParameters
 returns-4 c =
-    let s = now (c .before .before .before .before .before .before .before .before .before .before .before .before .before .args .file) in
-    let e = now (c .before .before .before .before .before .before .before .before .before .before .before .before .before .args .entry) in
     let found = placed _ _ _ (c .before .before .before .before .before .find-projection .ensures .0) (c .before .before .before .found .given .1) in
-    c .in-payload .ensures
-    ∙ ap (λ (p : Bytes). either (eqb (locationOf e) 34736) (doubleIn e p) (textIn e (c .before .before .before .found .given .0 .0) p)) (c .before .payload-at .ensures)
-    ∙ sym (searched (c .before .before .before .before .before .before) ∙ ap (inParameters s e) found)
+    in-record _ _ _ _ (searched (c .before .before .before .before .before .before)) _ _ _ found (c .before .payload-at .ensures) (c .in-payload .ensures)
 
 returns-5 : tie.Need-returns-5
-unfolding inParameters
 returns-5 c =
-    let s = now (c .before .before .before .before .before .before .before .before .before .before .args .file) in
-    let e = now (c .before .before .before .before .before .before .before .before .before .before .args .entry) in
-    let none = nowhere _ _ (c .before .before .find-projection .ensures .0) (c .enum-told .given .1) in
-    sym (searched (c .before .before .before) ∙ ap (inParameters s e) none)
+    sym (no-record _ _ _ _ (searched (c .before .before .before)) (nowhere _ _ (c .before .before .find-projection .ensures .0) (c .enum-told .given .1)))
 
 pub from-entry-spec : {M : Type 1} → statement M
 from-entry-spec =
