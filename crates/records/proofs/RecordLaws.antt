@@ -53,6 +53,10 @@ pub places-step : (lw n at : ℕ) (s : Bytes) → places lw (suc n) at s ≡ at 
 unfolding places
 places-step lw n at s = refl
 
+pub walk-none : (lw at : ℕ) (s : Bytes) → walk lw 0 at s ≡ []
+unfolding walk places
+walk-none lw at s = refl
+
 pub walk-step : (lw n at : ℕ) (s : Bytes) → walk lw (suc n) at s ≡ recordOf lw (drop at s) ∷ walk lw n (at + sizeOf lw (drop at s)) s
 unfolding walk places
 walk-step lw n at s = refl
@@ -174,7 +178,7 @@ module _ (lw : ℕ) where
   next pre r at h e = omega (arith, length-append pre (recordBytes lw r), length-recordBytes r h)
 
   pub walk-back : WalkBack lw
-  walk-back [] h at pre rest e = unfold walk places in refl
+  walk-back [] h at pre rest e = walk-none lw at (pre ++ (recordsBytes lw [] ++ rest))
   walk-back (r ∷ rs) h at pre rest e =
       let s : Bytes = pre ++ (recordsBytes lw (r ∷ rs) ++ rest) in
       let here : recordOf lw (drop at s) ≡ r = rw (first pre r rs rest at e) (record-back r (h .0) (recordsBytes lw rs ++ rest)) in
