@@ -1,6 +1,3 @@
-mod AnswerLaws
+pub mod AnswerLaws
 mod RoomLaws
-mod LayoutLaws
-mod BytesBack
-mod FieldsBack
-pub mod RoundTrips
+pub mod LayoutLaws

@@ -122,6 +122,11 @@ pub then-passes : (v w : Verdict) → v ≡ Passes → then v w ≡ w
 unfolding then
 then-passes v w e = rw e
 
+pub then-passed : (v w : Verdict) → then v w ≡ Passes → w ≡ Passes
+unfolding then
+then-passed Passes w e = e
+then-passed (Fails n) w e = let z : _≡_ {A = ℕ} 0 1 = cc in absurd (omega arith)
+
 pub then-fails : (v w : Verdict) (n : ℕ) → v ≡ Fails n → then v w ≡ Fails n
 unfolding then
 then-fails v w n e = rw e

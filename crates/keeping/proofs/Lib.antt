@@ -1,2 +1,1 @@
 mod SearchLaws
-pub mod KeepingLaws

@@ -1,18 +1,51 @@
--- One turn of the checks of a sheet's lines.
+-- Laws of a sheet's lines, and of their checks, by one turn: a line, and what follows it.
 -- Assumes nothing.
 use mathlib.Core.Path.{_≡_, refl, _∙_}
 use Prim.Native.Nat.{ℕ, zero, suc, _-_, _≤_, _<_}
 use native.Mathlib.Nat.{not-suc-le-zero}
 use native.Mathlib.Omega.{arith}
-use mathlib.Core.List.{[], _∷_}
-use lib.ListN.{length}
+use mathlib.Core.List.{[], _∷_, _++_}
+use lib.ListN.{length, take-append-drop}
 use Rattle.fields.specs.declared.Verdict.{Verdict}
 use Rattle.fields.specs.declared.Verdict.the-variants.{Passes, Fails}
 use Rattle.fields.specs.Bytes.{Bytes}
 use Rattle.fields.specs.Checks.{firstFailing, then}
-use Rattle.sheet.specs.Sheet.{afterLine, lineChecks, linesVerdict}
+use Rattle.sheet.specs.Sheet.{lineLength, kind, firstLine, afterLine, linesFrom, lines, lineChecks, linesVerdict, sheetVerdict}
 
-verdict-more : (n : ℕ) (s : Bytes) → 0 < n → 0 < length s → linesVerdict n s ≡ then (firstFailing (lineChecks s)) (linesVerdict (n - 1) (afterLine s))
+pub first-after : (s : Bytes) → firstLine s ++ afterLine s ≡ s
+unfolding firstLine afterLine
+first-after s = take-append-drop (lineLength (kind s)) s
+
+-- ---- the lines
+
+pub lines-from : (s : Bytes) → lines s ≡ linesFrom 64 s
+unfolding lines
+lines-from s = refl
+
+pub lines-more : (n : ℕ) (s : Bytes) → 0 < n → 0 < length s → linesFrom n s ≡ firstLine s ∷ linesFrom (n - 1) (afterLine s)
+unfolding linesFrom
+lines-more zero s h k = absurd (not-suc-le-zero h)
+lines-more (suc n) [] h k = absurd (not-suc-le-zero k)
+lines-more (suc n) (b ∷ bs) h k = (let e : suc n - 1 ≡ n = omega arith in rw e)
+
+pub lines-full : (n : ℕ) (s : Bytes) → n ≡ 0 → linesFrom n s ≡ []
+unfolding linesFrom
+lines-full zero s e = refl
+lines-full (suc n) s e = absurd (omega arith)
+
+pub lines-end : (n : ℕ) (s : Bytes) → length s ≤ 0 → linesFrom n s ≡ []
+unfolding linesFrom
+lines-end zero s k = refl
+lines-end (suc n) [] k = refl
+lines-end (suc n) (b ∷ bs) k = absurd (not-suc-le-zero k)
+
+-- ---- their checks
+
+pub verdict-from : (s : Bytes) → sheetVerdict s ≡ linesVerdict 64 s
+unfolding sheetVerdict
+verdict-from s = refl
+
+pub verdict-more : (n : ℕ) (s : Bytes) → 0 < n → 0 < length s → linesVerdict n s ≡ then (firstFailing (lineChecks s)) (linesVerdict (n - 1) (afterLine s))
 unfolding linesVerdict
 verdict-more zero s h k = absurd (not-suc-le-zero h)
 verdict-more (suc n) [] h k = absurd (not-suc-le-zero k)

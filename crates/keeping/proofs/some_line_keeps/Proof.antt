@@ -1,10 +1,11 @@
 -- `keeping::some_line_keeps` meets its contract. The loop's invariant: whether some line of the sheet passes is whether one of the rest does, where `left` more may begin.
 -- Assumes nothing.
-use mathlib.Core.Path.{_≡_, refl, sym, _∙_}
+use mathlib.Core.Path.{_≡_, sym, ap, _∙_}
 use native.Mathlib.Omega.{arith}
 use Rattle.fields.specs.Lists.{some}
 use Rattle.fields.specs.Text.{cut}
 use Rattle.sheet.specs.Sheet.{lines, linesFrom}
+use Rattle.sheet.proofs.LineLaws.{lines-from}
 use Rattle.keeping.specs.Search.{lineKeeps}
 use Rattle.keeping.proofs.SearchLaws.{some-here, some-next, some-full, some-end}
 use Rattle.keeping.proofs.some_line_keeps.Statement.{statement}
@@ -17,8 +18,7 @@ abbrev μ-loop : tie.MeasureT-loop
 μ-loop sheet sought user rest₀ left₀ rest left = left
 
 loop-holds : tie.Need-loop-holds Inv-loop μ-loop
-unfolding lines
-loop-holds c = refl
+loop-holds c = ap (some _) (lines-from _)
 
 returns : tie.Need-returns Inv-loop μ-loop
 returns c =

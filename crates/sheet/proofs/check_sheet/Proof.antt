@@ -1,9 +1,9 @@
 -- `sheet::check_sheet` meets its contract. The loop's invariant: the sheet's verdict is that of the rest, where `left` more lines may begin. Assumes nothing.
-use mathlib.Core.Path.{_≡_, refl, sym, _∙_}
+use mathlib.Core.Path.{_≡_, sym, _∙_}
 use native.Mathlib.Omega.{arith}
 use borrow.Author.Needs.{needs}
 use Rattle.sheet.specs.Sheet.{linesVerdict, sheetVerdict}
-use Rattle.sheet.proofs.LineLaws.{verdict-here, verdict-next, verdict-full, verdict-end}
+use Rattle.sheet.proofs.LineLaws.{verdict-from, verdict-here, verdict-next, verdict-full, verdict-end}
 use Rattle.sheet.proofs.check_sheet.Statement.{statement}
 use Rattle.sheet.proofs.check_sheet.Tie as tie
 
@@ -14,8 +14,7 @@ abbrev μ-loop : tie.MeasureT-loop
 μ-loop sheet rest₀ left₀ rest left = left
 
 loop-holds : tie.Need-loop-holds Inv-loop μ-loop
-unfolding sheetVerdict
-loop-holds c = refl
+loop-holds c = verdict-from _
 
 returns : tie.Need-returns Inv-loop μ-loop
 returns c =

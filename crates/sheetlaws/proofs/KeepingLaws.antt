@@ -1,6 +1,6 @@
 -- What a keep sheet keeps is what some line says.
 -- Assumes nothing.
-use mathlib.Core.Path.{_≡_, refl, sym, subst}
+use mathlib.Core.Path.{_≡_, refl, sym, subst, _∙_}
 use mathlib.Core.Logic.{_↔_}
 use Prim.Native.Nat.{ℕ, _≤_}
 use native.Mathlib.Omega.{arith}
@@ -12,9 +12,10 @@ use Rattle.fields.specs.declared.Verdict.the-variants.{Passes}
 use Rattle.fields.specs.Lists.{some}
 use Rattle.fields.specs.Bytes.{Bytes, same}
 use Rattle.fields.proofs.ByteLaws.{same→eq, same-refl}
-use Rattle.sheet.specs.Sheet.{kind, lowest, highest, userID, recordID, linesFrom, lines, linesVerdict, sheetVerdict}
-use Rattle.keeping.specs.Kept.{SomeLine, Kept}
+use Rattle.sheet.specs.Sheet.{kind, lowest, highest, userID, recordID, lines, sheetVerdict}
+use Rattle.sheet.proofs.LineLaws.{lines-from, lines-end, verdict-from, verdict-end}
+use Rattle.sheetlaws.specs.Kept.{SomeLine, Kept}
 use Rattle.keeping.specs.Keeping.{containsClass, namesRecord, keepsClass, keepsRecord}
 
 -- ---- what a line says
 
@@ -87,9 +88,12 @@ same-lines : (s t : Bytes) → lines s ≡ lines t
 unfolding keepsClass keepsRecord
 same-lines s t e = (λ c. rw e, λ user id. rw e)
 
+none : lines [] ≡ []
+none = lines-from [] ∙ lines-end 64 [] (omega arith)
+
 empty : (sheetVerdict [] ≡ Passes) × ((c : ℕ) → keepsClass [] c ≡ false) × ((user : Bytes) (id : ℕ) → keepsRecord [] user id ≡ false)
-unfolding sheetVerdict linesVerdict keepsClass keepsRecord lines linesFrom some
-empty = (refl, λ c. refl, λ user id. refl)
+unfolding keepsClass keepsRecord some
+empty = (verdict-from [] ∙ verdict-end 64 [] (omega arith), λ c. rw none, λ user id. rw none)
 
 pub kept : Kept
 kept = record { class = keeps-class; entry = keeps-record; by-lines = same-lines; empty = empty }

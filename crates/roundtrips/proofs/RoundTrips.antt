@@ -18,13 +18,13 @@ use Rattle.points.specs.declared.Point.{Point}
 use Rattle.points.specs.declared.Decoded.the-variants.{Fields}
 use Rattle.points.specs.Points.{bits, pointOf, shape, decodeChecks, fieldsIf, decoded}
 use Rattle.shared.specs.Shared.{sharedFields}
 use Rattle.encoding.specs.Encoding.{timeFields, colourFields, pointBytes, large, encodeChecks, storedIf, encoded, blank, InRange}
-use Rattle.encoding.specs.RoundTrips.{RoundTrips}
+use Rattle.roundtrips.specs.RoundTrips.{RoundTrips}
 use Rattle.points.proofs.AnswerLaws.{accepted}
 use Rattle.encoding.proofs.AnswerLaws.{stored}
 use Rattle.encoding.proofs.LayoutLaws.{bytes-groups, length-bytes}
-use Rattle.encoding.proofs.BytesBack.{bytes-back}
-use Rattle.encoding.proofs.FieldsBack.{fields-back}
+use Rattle.roundtrips.proofs.BytesBack.{bytes-back}
+use Rattle.roundtrips.proofs.FieldsBack.{fields-back}
 
 -- what is known of n bytes where 12 is not given
 record Shaped (f len n : ℕ) : Type 0 where

@@ -1,0 +1,3 @@
+mod BytesBack
+mod FieldsBack
+pub mod RoundTrips
