@@ -1,4 +1,4 @@
--- Laws of a record that bytes begin with, whether or not it is whole: its fields by their places, that it can be written, and that the two parts make it up.
+-- Laws of a record that bytes begin with, whether or not it is whole: that it can be written, and that the two parts make it up.
 -- Assumes nothing.
 use mathlib.Core.Path.{_≡_, refl, _∙_}
 use Prim.Native.Nat.{_^_, _<_}
@@ -7,44 +7,26 @@ use mathlib.Core.List.{_++_, append-assoc, append-nil}
 use lib.ListN.{length, length-append}
 use lib.Seq.{sets}
 use Rattle.fields.specs.Bytes.{Bytes, AllBytes, part, num, bytesOf, zeros, join}
-use Rattle.fields.specs.Text.{cut, padded}
+use Rattle.fields.specs.Text.{padded}
 use Rattle.fields.proofs.ByteLaws.{num-part-lt, length-part-le, length-bytesOf}
 use Rattle.fields.proofs.TextLaws.{held, length-padded}
 use Rattle.fields.proofs.StoreLaws.{store-behind}
-use Rattle.records.specs.Records.{Record, recordOf, payloadLength, recordBytes, recordLen}
+use Rattle.records.specs.Records.{Record, recordOf, recordBytes, recordLen}
 use Rattle.records.specs.ReadBack.{SoundRecord}
+use Rattle.records.proofs.FieldLaws.{user-of, id-of, description-of, payload-of, length-of}
 use Rattle.keptrecords.specs.RecordParts.{nameBytes, contentBytes}
-
--- ---- what it says, by its places
-
-module _ (v : Bytes) where
-  pub user-of : recordOf 2 v .user ≡ cut (part 2 16 v)
-  unfolding recordOf
-  user-of = refl
-
-  pub id-of : recordOf 2 v .id ≡ num (part 18 2 v)
-  unfolding recordOf
-  id-of = refl
-
-  pub description-of : recordOf 2 v .description ≡ cut (part 22 32 v)
-  unfolding recordOf
-  description-of = refl
-
-  pub payload-of : recordOf 2 v .payload ≡ part 54 (num (part 20 2 v)) v
-  unfolding recordOf payloadLength
-  payload-of = refl
 
 module _ (v : Bytes) (bytes : AllBytes v) where
   payload-low : length (recordOf 2 v .payload) < 256 ^ 2
-  payload-low = rw (payload-of v) (omega (arith, length-part-le 54 (num (part 20 2 v)) v, num-part-lt 20 2 v bytes))
+  payload-low = rw (payload-of 2 v, length-of 2 v) (omega (arith, length-part-le 54 (num (part 20 2 v)) v, num-part-lt 20 2 v bytes))
 
   -- a record that is read can be written
   pub sound : SoundRecord 2 (recordOf 2 v)
   sound =
       record {
-        user = rw (user-of v) (held 2 16 v);
-        id = rw (id-of v) (num-part-lt 18 2 v bytes);
-        description = rw (description-of v) (held 22 32 v);
+        user = rw (user-of 2 v) (held 2 16 v);
+        id = rw (id-of 2 v) (num-part-lt 18 2 v bytes);
+        description = rw (description-of 2 v) (held 22 32 v);
         payload = payload-low;
       }
 

@@ -4,7 +4,7 @@ use denote.Ref.{now}
 use Rattle.fields.specs.Text.{cut}
 use Rattle.records.specs.Records.{recordOf}
 use Rattle.publicpart.specs.Public.{keptRecord}
-use Rattle.keptrecords.proofs.RecordPartLaws.{user-of, id-of}
+use Rattle.records.proofs.FieldLaws.{user-of, id-of}
 use borrow.Author.Needs.{needs}
 use Rattle.keptrecords.proofs.keeps.Statement.{statement}
 use Rattle.keptrecords.proofs.keeps.Tie as tie
@@ -14,7 +14,7 @@ returns c =
     let a = c .before .before .before .before .before .args in
     let user = ap cut (c .before .part-at .ensures) in
     let id = c .before .before .number-at .ensures .0 in
-    let held : c .holds-record .result ≡ keptRecord (now (a .sheet)) (recordOf 2 (now (a .vlr))) = c .holds-record .ensures ∙ rw (user, id, user-of (now (a .vlr)), id-of (now (a .vlr))) in
+    let held : c .holds-record .result ≡ keptRecord (now (a .sheet)) (recordOf 2 (now (a .vlr))) = c .holds-record .ensures ∙ rw (user, id, user-of 2 (now (a .vlr)), id-of 2 (now (a .vlr))) in
     held
 
 pub keeps-spec : {M : Type 1} → statement M

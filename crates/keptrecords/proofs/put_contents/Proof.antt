@@ -5,7 +5,8 @@ use denote.Ref.{now}
 use Rattle.fields.specs.Bytes.{AllBytes, part}
 use Rattle.fields.specs.Text.{cut, padded}
 use Rattle.records.specs.Records.{Record, recordOf}
-use Rattle.keptrecords.proofs.RecordPartLaws.{description-of, sound, content-stored}
+use Rattle.records.proofs.FieldLaws.{description-of}
+use Rattle.keptrecords.proofs.RecordPartLaws.{sound, content-stored}
 use borrow.Author.Needs.{needs}
 use Rattle.keptrecords.proofs.put_contents.Statement.{statement}
 use Rattle.keptrecords.proofs.put_contents.Tie as tie
@@ -16,7 +17,7 @@ description-is : (c : tie.After-part-at)
 description-is c =
     let v = now (c .before .before .before .before .before .before .before .before .before .args .vlr) in
     let read : now (c .part-at .result) ≡ part 22 32 v = c .part-at .ensures in
-    ap (padded 32) (ap cut read ∙ sym (description-of v))
+    ap (padded 32) (ap cut read ∙ sym (description-of 2 v))
 
 returns : tie.Need-returns
 returns c =

@@ -5,7 +5,8 @@ use denote.Ref.{now}
 use Rattle.fields.specs.Bytes.{AllBytes, bytesOf}
 use Rattle.fields.specs.Text.{cut, padded}
 use Rattle.records.specs.Records.{Record, recordOf}
-use Rattle.keptrecords.proofs.RecordPartLaws.{user-of, id-of, sound, name-stored}
+use Rattle.records.proofs.FieldLaws.{user-of, id-of}
+use Rattle.keptrecords.proofs.RecordPartLaws.{sound, name-stored}
 use borrow.Author.Needs.{needs}
 use Rattle.keptrecords.proofs.put_name.Statement.{statement}
 use Rattle.keptrecords.proofs.put_name.Tie as tie
@@ -16,8 +17,8 @@ returns c =
     let v = now (a .vlr) in
     let bytes : AllBytes v = λ i. omega (arith, c .before .before .before .before .before .before .before .before .before .before .before .before .before .before .before .shared-slice-known .given i) in
     let r : Record = recordOf 2 v in
-    let user : padded 16 (cut (now (c .before .before .before .before .before .before .before .before .part-at .result))) ≡ padded 16 (r .user) = ap (padded 16) (ap cut (c .before .before .before .before .before .before .before .before .part-at .ensures) ∙ sym (user-of v)) in
-    let id : bytesOf 2 (c .before .before .before .number-at .result) ≡ bytesOf 2 (r .id) = ap (bytesOf 2) (c .before .before .before .number-at .ensures .0 ∙ sym (id-of v)) in
+    let user : padded 16 (cut (now (c .before .before .before .before .before .before .before .before .part-at .result))) ≡ padded 16 (r .user) = ap (padded 16) (ap cut (c .before .before .before .before .before .before .before .before .part-at .ensures) ∙ sym (user-of 2 v)) in
+    let id : bytesOf 2 (c .before .before .before .number-at .result) ≡ bytesOf 2 (r .id) = ap (bytesOf 2) (c .before .before .before .number-at .ensures .0 ∙ sym (id-of 2 v)) in
     c .before .before .put-number .ensures
     ∙ rw (c .before .before .before .before .before .before .before .put-text .ensures, c .before .before .before .before .before .before .before .before .before .before .before .before .zero .ensures, user, id) (name-stored (now (a .out)) r (sound v bytes))
 
