@@ -13,11 +13,11 @@ was-read c = subst T (sym (not-false (c .before .args .is-read) (c .if1 .left)))
 
 returns : tie.Need-returns
 unfolding inputChecks
-returns c = sym (first-fails _ _ _ (not-true _ (c .if1 .taken)))
+returns c = sym (first-fails 51 _ _ (not-true _ (c .if1 .taken)))
 
 returns-2 : tie.Need-returns-2
 unfolding inputChecks
-returns-2 c = sym (first-clear _ _ _ (was-read (c .before)) ∙ first-fails _ _ _ (c .if2 .taken))
+returns-2 c = sym (first-clear _ _ _ (was-read (c .before)) ∙ first-fails 50 _ _ (c .if2 .taken))
 
 returns-3 : tie.Need-returns-3
 unfolding inputChecks

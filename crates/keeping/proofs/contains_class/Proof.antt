@@ -1,4 +1,5 @@
 -- `keeping::contains_class` meets its contract. Assumes nothing.
+use mathlib.Core.Path.{refl}
 use Rattle.sheet.specs.Sheet.{kind, lowest, highest}
 use Rattle.keeping.specs.Keeping.{containsClass}
 use Rattle.keeping.proofs.contains_class.Statement.{statement}
@@ -6,7 +7,7 @@ use Rattle.keeping.proofs.contains_class.Tie as tie
 
 returns : tie.Need-returns
 unfolding containsClass kind lowest highest
-returns c = rw (c .before .before .u8-at .ensures, c .before .u8-at2 .ensures, c .u8-at3 .ensures)
+returns c = rw (c .before .before .u8-at .ensures, c .before .u8-at2 .ensures, c .u8-at3 .ensures) refl
 
 pub contains-class-spec : {M : Type 1} → statement M
 contains-class-spec = tie.close (tie.spec (λ c κs. tt) (λ c κs. tt) (λ c κs. tt) returns)

@@ -1,4 +1,5 @@
 -- `kept::answer` meets its contract. Assumes nothing.
+use mathlib.Core.Path.{refl}
 use borrow.Author.Needs.{needs}
 use Rattle.kept.specs.Answers.{keptUnder}
 use Rattle.kept.proofs.answer.Statement.{statement}
@@ -6,15 +7,15 @@ use Rattle.kept.proofs.answer.Tie as tie
 
 returns : tie.Need-returns
 unfolding keptUnder
-returns c = rw (c .before .verdict .given .1)
+returns c = rw (c .before .verdict .given .1) refl
 
 returns-2 : tie.Need-returns-2
 unfolding keptUnder
-returns-2 c = rw (c .before .enum-told .given .1, c .if1 .taken)
+returns-2 c = rw (c .before .enum-told .given .1, c .if1 .taken) refl
 
 returns-3 : tie.Need-returns-3
 unfolding keptUnder
-returns-3 c = rw (c .before .enum-told .given .1, c .if1 .left)
+returns-3 c = rw (c .before .enum-told .given .1, c .if1 .left) refl
 
 pub answer-spec : {M : Type 1} → statement M
 answer-spec = tie.close (tie.spec (λ c. search needs) (λ c. search needs) returns returns-2 returns-3)

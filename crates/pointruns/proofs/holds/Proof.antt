@@ -27,7 +27,7 @@ returns-2 : tie.Need-returns-2
 unfolding inRun
 returns-2 c =
     let a = c .before .args in
-    rw (le-leb 20 (a .record-length) (c .if1 .left), by-quotient (a .count) (a .record-length) (a .size) (c .if1 .left) _ refl)
+    rw (le-leb 20 (a .record-length) (c .if1 .left), by-quotient (a .count) (a .record-length) (a .size) (c .if1 .left) _ refl) refl
 
 pub holds-spec : {M : Type 1} → statement M
 holds-spec = tie.close (tie.spec returns div-result returns-2)
