@@ -19,14 +19,14 @@ use Rattle.records.proofs.FieldLaws.{user-at, id-at, description-at, payload-at
 use Rattle.records.proofs.RecordLaws.{walk-grows, walkEnd-step, places-none, places-step}
 use Rattle.headerfields.specs.HeaderFields.{headerSize, pointOffset, recordCount}
 use Rattle.lasfile.specs.FileChecks.{recordsEnd, fileVerdict}
 use Rattle.cursor.specs.Steps.{recordPlaces, nextCursor, stepOf, collect, visited}
-use Rattle.cursor.specs.Visits.{cursor, Means, Visits}
+use Rattle.stepping.specs.Visits.{cursor, Means, Visits}
 use Rattle.cursor.specs.declared.RecordPlaces.{RecordPlaces}
 use Rattle.cursor.specs.declared.Step.{Step}
 use Rattle.cursor.specs.declared.Step.the-variants.{Record, Refused}
 use Rattle.lasfile.specs.Passed.{Passed}
 use Rattle.lasfile.proofs.Passed.{passed}
 use Rattle.cursor.proofs.StepLaws.{test, refused-18, answered}
 
 module _ (s : Bytes) (passes : fileVerdict s ≡ Passes) where
   ends-in-18 : (position : ℕ) → stepOf s (recordCount s) position ≡ Refused 18

@@ -1,0 +1,1 @@
+// Theorems about stepping over the records by crate `cursor`: specs/ states them. No code.
