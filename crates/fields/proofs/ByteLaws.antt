@@ -7,7 +7,7 @@ use native.Mathlib.Omega.{arith}
 use mathlib.Core.Bool.{Bool, true, false, _&&_}
 use mathlib.Core.List.{List, [], _∷_, _++_, append-assoc}
 use lib.ListN.{length, take, drop, getD, length-append, length-take, length-drop, drop-of-length-le}
-use lib.Seq.{getD-take, take-at, drop-at, drop-append-add, getD-drop, drop-drop, take-take, take-nil}
+use lib.Seq.{take-at, drop-at, drop-append-add, getD-drop, drop-drop, take-take, take-nil}
 use lib.Dec.{T, eqb, eqb→eq, eqb-refl}
 use Rattle.fields.specs.Lists.{All, total}
 use Rattle.fields.specs.Bytes.{Bytes, AllBytes, part, num, bytesOf, same, join, pieces, start, Fit}
@@ -117,10 +117,6 @@ pub part-part : (at w i k : ℕ) (s : Bytes) → i + k ≤ w → part i k (part 
 part-part at w i k s h =
     let e : part i k (part at w s) ≡ part i k (drop at s) = unfold part in part-take i k w (drop at s) h in
     e ∙ part-drop at i k s
-
-pub getD-part : (at w i : ℕ) (s : Bytes) → i < w → getD (part at w s) i 0 ≡ getD s (at + i) 0
-unfolding part
-getD-part at w i s h = rw (getD-take, getD-drop)
 
 -- ---- equal runs
 
