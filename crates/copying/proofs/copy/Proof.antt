@@ -1,6 +1,6 @@
 -- `copying::copy` meets its contract. Assumes nothing.
 use mathlib.Core.Path.{_≡_, sym, _∙_}
-use Prim.Native.Nat.{ℕ, _-_, _≤_, min}
+use Prim.Native.Nat.{ℕ, _+_, _-_, _≤_, min}
 use native.Mathlib.Omega.{arith}
 use lib.ListN.{length}
 use lib.Seq.{paste, sets}
@@ -10,9 +10,10 @@ use borrow.Author.Needs.{needs}
 use Rattle.copying.proofs.copy.Statement.{statement}
 use Rattle.copying.proofs.copy.Tie as tie
 
--- as many bytes as there is room for
-as-far : (d : Bytes) (at : ℕ) (s : Bytes) (n : ℕ) → at ≤ length d → n ≡ min (length s) (length d - at) → paste d at s n ≡ sets d at s
-as-far d at s n h e = paste-sets d at s n (omega arith) (omega arith) ∙ sets-least d at n s h e
+-- n bytes were copied, and n is as many as there is room for
+as-far : (d : Bytes) (at : ℕ) (s : Bytes) (n : ℕ) {r : Bytes} → n ≤ length s → at + n ≤ length d → r ≡ paste d at s n
+    → n ≡ min (length s) (length d - at) → r ≡ sets d at s
+as-far d at s n hs hd copied e = copied ∙ paste-sets d at s n hs hd ∙ sets-least d at n s (omega arith) e
 
 returns : tie.Need-returns
 returns c = let a = c .before .before .before .args in sym (sets-out (a .dst .now) (a .at) (a .src .now) (omega arith))
@@ -26,12 +27,14 @@ copy-blocks-requires c κs = search needs
 returns-2 : tie.Need-returns-2
 returns-2 c =
     let a = c .before .before .before .before .before .before .before .before .before .args in
-    c .before .before .copy-bytes .ensures ∙ as-far (a .dst .now) (a .at) (a .src .now) _ (omega arith) (c .before .before .before .before .before .least .ensures)
+    let needed = copy-bytes-requires (c .before .before .before) (c .before .before .copy-bytes .lifetimes) in
+    as-far (a .dst .now) (a .at) (a .src .now) _ (needed .0) (needed .1) (c .before .before .copy-bytes .ensures) (c .before .before .before .before .before .least .ensures)
 
 returns-3 : tie.Need-returns-3
 returns-3 c =
     let a = c .before .before .before .before .before .before .before .before .before .args in
-    c .before .before .copy-blocks .ensures ∙ as-far (a .dst .now) (a .at) (a .src .now) _ (omega arith) (c .before .before .before .before .before .least .ensures)
+    let needed = copy-blocks-requires (c .before .before .before) (c .before .before .copy-blocks .lifetimes) in
+    as-far (a .dst .now) (a .at) (a .src .now) _ (needed .1) (needed .2) (c .before .before .copy-blocks .ensures) (c .before .before .before .before .before .least .ensures)
 
 pub copy-spec : {M : Type 1} → statement M
 copy-spec =

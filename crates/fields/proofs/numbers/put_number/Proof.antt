@@ -30,8 +30,9 @@ put-within-requires c κs = search needs
 returns-2 : tie.Need-returns-2
 returns-2 c =
     let a = c .before .before .before .before .before .before .before .args in
-    c .before .before .put-within .ensures
-    ∙ as-far (a .s .now) (a .at) (a .width) _ (a .n) (omega arith) (c .before .before .before .least .ensures)
+    let m = c .before .before .before .least in
+    let stored : c .before .before .put-within .last .0 ≡ sets (a .s .now) (a .at) (bytesOf (m .result) (a .n)) = c .before .before .put-within .ensures in
+    stored ∙ as-far (a .s .now) (a .at) (a .width) (m .result) (a .n) (omega arith) (m .ensures)
 
 pub put-number-spec : {M : Type 1} → statement M
 put-number-spec = tie.close (tie.spec returns (λ c. search needs) (λ c κs. tt) put-within-requires (λ c. search needs) returns-2)
