@@ -38,7 +38,7 @@ computed = tt
 
 pub samples-hold : SamplesHold
 unfolding samples fieldsOf fourNumbers computed
-samples-hold = refl
+samples-hold = (refl, (refl, (refl, (refl, (refl, (refl, (refl, (refl, (refl, (refl, (refl, (refl, (refl, (refl, (refl, (refl, tt))))))))))))))))
 
 -- ---- two different files with one public part under P3's sheet: P9's file, and the same with three bytes behind it
 

@@ -7,7 +7,7 @@ use mathlib.Core.List.{List, [], _∷_, _++_, map}
 use lib.ListN.{length, replicate}
 use lib.IntN.{ℤ, pos, negsuc}
 use lib.Ieee.{binary64, fin, toBits}
-use Rattle.fields.specs.Lists.{kept}
+use Rattle.fields.specs.Lists.{All, kept}
 use Rattle.fields.specs.Bytes.{Bytes, part, bytesOf, zeros, join}
 use Rattle.fields.specs.Checks.{numberOf}
 use Rattle.points.specs.declared.Decoded.{Decoded}
@@ -129,4 +129,4 @@ samples =
     ∷ []
 
 abbrev pub SamplesHold : Type 0
-SamplesHold = map (λ s. s .0) samples ≡ map (λ s. s .1) samples
+SamplesHold = All (λ s. s .0 ≡ s .1) samples

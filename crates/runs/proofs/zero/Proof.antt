@@ -12,11 +12,11 @@ use Rattle.runs.proofs.zero.Statement.{statement}
 use Rattle.runs.proofs.zero.Tie as tie
 
 -- one zero more is written
-turn : (d whole : Bytes) (i end : ℕ) → i < end → sets d i (zeros (end - i)) ≡ whole → sets (set d i 0) (i + 1) (zeros (end - (i + 1))) ≡ whole
-turn d whole i end h inv =
+turn : (d next whole : Bytes) (i end : ℕ) → i < end → next ≡ set d i 0 → sets d i (zeros (end - i)) ≡ whole → sets next (i + 1) (zeros (end - (i + 1))) ≡ whole
+turn d next whole i end h e inv =
     let n : end - i ≡ suc (end - (i + 1)) = omega arith in
     let f : i + 1 ≡ suc i = omega arith in
-    rw f (rw (n, f) at inv)
+    rw (e, f) (rw (n, f) at inv)
 
 ended : (d : Bytes) (i end : ℕ) → end ≤ i → d ≡ sets d i (zeros (end - i))
 ended d i end h = let n : end - i ≡ 0 = omega arith in rw n
@@ -60,7 +60,7 @@ loop-less c = omega arith
 loop-again : tie.Need-loop-again Inv-loop μ-loop
 loop-again c =
     let l = c .before .loop in
-    (omega arith, omega arith, simp length-set (l .inv .2), turn (l .dst) _ (l .i) _ (omega arith) (l .inv .3))
+    (omega arith, omega arith, simp length-set (l .inv .2), turn (l .dst) _ _ (l .i) _ (omega arith) refl (l .inv .3))
 
 same-length : tie.Need-same-length Inv-loop μ-loop
 same-length c = c .before .loop .inv .2
