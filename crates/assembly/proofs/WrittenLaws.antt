@@ -9,7 +9,7 @@ use lib.Seq.{sets}
 use Rattle.fields.specs.Bytes.{Bytes}
 use Rattle.records.specs.Records.{recordsBytes}
 use Rattle.scaling.specs.Scaling.{scalingOf}
-use Rattle.headerfields.specs.HeaderFields.{headerBlock, recordLength}
+use Rattle.headerfields.specs.HeaderFields.{headerBlock, format, recordLength}
 use Rattle.pointruns.specs.PointRuns.{pointsOf}
 use Rattle.publicpart.specs.Bounds.{boundNumbers}
 use Rattle.publicpart.specs.Public.{carriedOf, publicOf}
@@ -34,6 +34,6 @@ head-said s t records start = refl
 pub written-is : (sheet s : Bytes) (table : List Bool) (points records start : ℕ) (out : Bytes)
     → let pointed : Bytes = withPoints table s start (sets out headerBlock (recordsBytes 2 (publicOf sheet s .records))) in
     written sheet s table points records start out
-    ≡ sets pointed 0 (headBytes s (totalsOf s (tallyOf (pointsOf points (recordLength s) (drop start pointed))) records start))
+    ≡ sets pointed 0 (headBytes s (totalsOf s (tallyOf (format s) (pointsOf points (recordLength s) (drop start pointed))) records start))
 unfolding written withHead
 written-is sheet s table points records start out = refl

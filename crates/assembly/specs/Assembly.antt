@@ -40,7 +40,7 @@ totalsOf s t records start =
 -- the header, of the points that stand in an output from a place on
 unfoldable pub withHead : Bytes → ℕ → ℕ → ℕ → Bytes → Bytes
 withHead s points records start out =
-    sets out 0 (headBytes s (totalsOf s (tallyOf (pointsOf points (recordLength s) (drop start out))) records start))
+    sets out 0 (headBytes s (totalsOf s (tallyOf (format s) (pointsOf points (recordLength s) (drop start out))) records start))
 
 -- kept records directly after the header, kept points from the new point offset on with zeros behind them, and the header of these
 unfoldable pub written : Bytes → Bytes → List Bool → ℕ → ℕ → ℕ → Bytes → Bytes

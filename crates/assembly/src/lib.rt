@@ -1,7 +1,7 @@
 // A released file, put together in the output: kept records, kept points and zeros behind them, and the header of these.
 ghost use mathlib.Core.Path.{_≡_};
 ghost use lib.ListN.{drop};
-ghost use Rattle.headerfields.specs.HeaderFields.{recordLength};
+ghost use Rattle.headerfields.specs.HeaderFields.{format, recordLength};
 ghost use Rattle.pointruns.specs.PointRuns.{pointsOf};
 ghost use Rattle.tally.specs.Tally.{tallyOf};
 ghost use Rattle.assembly.specs.Assembly.{withPoints, totalsOf, withHead, written};
@@ -30,11 +30,12 @@ fn put_points(file: &[u8], table: &[bool; 256], start: usize, out: &mut [u8])
 
 // What the header says of `records` records and of the `points` points that stand in the output from `start` on.
 fn totals_of(file: &[u8], points: usize, records: usize, start: usize, out: &[u8]) -> Totals
-    ensures { λ r. ⌜ r ≡ totalsOf (now (file .entry)) (tallyOf (pointsOf points (recordLength (now (file .entry))) (drop start (now (out .entry))))) records start ⌝ }
+    ensures { λ r. ⌜ r ≡ totalsOf (now (file .entry)) (tallyOf (format (now (file .entry))) (pointsOf points (recordLength (now (file .entry))) (drop start (now (out .entry))))) records start ⌝ }
 {
+    let format = headerfields::format(file);
     let record_length = headerfields::record_length(file);
     let run = runs::part_at(out, start, out.len());
-    let tally = tally::tally_points(run, record_length, points);
+    let tally = tally::tally_points(run, format, record_length, points);
     let bins = tally.bins;
     let bounds = bounds::bounds_of(tally, scaling::Scaling::read(file));
     Totals {

@@ -25,46 +25,46 @@ unfolding stored
 fits axis p = stored-fits (num (part (4 * axis) 4 p))
 
 -- the largest value of one axis
-module _ (axis : ℕ) (max : Tally → ℤ) (step : (t : Tally) (p : Bytes) → max (tallied t p) ≡ largerOf (max t) (stored axis p)) where
-  max-from : (t : Tally) (ps : List Bytes) → max (foldl tallied t ps) ≡ largest (max t) (map (stored axis) ps)
+module _ (f axis : ℕ) (max : Tally → ℤ) (step : (t : Tally) (p : Bytes) → max (tallied f t p) ≡ largerOf (max t) (stored axis p)) where
+  max-from : (t : Tally) (ps : List Bytes) → max (foldl (tallied f) t ps) ≡ largest (max t) (map (stored axis) ps)
   unfolding largest largerOf
   max-from t [] = refl
-  max-from t (p ∷ ps) = max-from (tallied t p) ps ∙ ap (λ (z : ℤ). largest z (map (stored axis) ps)) (step t p)
+  max-from t (p ∷ ps) = max-from (tallied f t p) ps ∙ ap (λ (z : ℤ). largest z (map (stored axis) ps)) (step t p)
 
-  max-of : max noTally ≡ negsuc 2147483647 → (p : Bytes) (ps : List Bytes) → max (tallyOf (p ∷ ps)) ≡ largest (stored axis p) (map (stored axis) ps)
+  max-of : max noTally ≡ negsuc 2147483647 → (p : Bytes) (ps : List Bytes) → max (tallyOf f (p ∷ ps)) ≡ largest (stored axis p) (map (stored axis) ps)
   unfolding tallyOf
   max-of none p ps =
-      max-from (tallied noTally p) ps
+      max-from (tallied f noTally p) ps
       ∙ ap (λ (z : ℤ). largest z (map (stored axis) ps)) (step noTally p ∙ ap (λ (z : ℤ). largerOf z (stored axis p)) none ∙ max-first (stored axis p) (fits axis p))
 
 -- the smallest
-module _ (axis : ℕ) (min : Tally → ℤ) (step : (t : Tally) (p : Bytes) → min (tallied t p) ≡ smallerOf (min t) (stored axis p)) where
-  min-from : (t : Tally) (ps : List Bytes) → min (foldl tallied t ps) ≡ smallest (min t) (map (stored axis) ps)
+module _ (f axis : ℕ) (min : Tally → ℤ) (step : (t : Tally) (p : Bytes) → min (tallied f t p) ≡ smallerOf (min t) (stored axis p)) where
+  min-from : (t : Tally) (ps : List Bytes) → min (foldl (tallied f) t ps) ≡ smallest (min t) (map (stored axis) ps)
   unfolding smallest smallerOf
   min-from t [] = refl
-  min-from t (p ∷ ps) = min-from (tallied t p) ps ∙ ap (λ (z : ℤ). smallest z (map (stored axis) ps)) (step t p)
+  min-from t (p ∷ ps) = min-from (tallied f t p) ps ∙ ap (λ (z : ℤ). smallest z (map (stored axis) ps)) (step t p)
 
-  min-of : min noTally ≡ pos 2147483647 → (p : Bytes) (ps : List Bytes) → min (tallyOf (p ∷ ps)) ≡ smallest (stored axis p) (map (stored axis) ps)
+  min-of : min noTally ≡ pos 2147483647 → (p : Bytes) (ps : List Bytes) → min (tallyOf f (p ∷ ps)) ≡ smallest (stored axis p) (map (stored axis) ps)
   unfolding tallyOf
   min-of none p ps =
-      min-from (tallied noTally p) ps
+      min-from (tallied f noTally p) ps
       ∙ ap (λ (z : ℤ). smallest z (map (stored axis) ps)) (step noTally p ∙ ap (λ (z : ℤ). smallerOf z (stored axis p)) none ∙ min-first (stored axis p) (fits axis p))
 
 -- the extremes of a first point and more
-tally-extremes : (p : Bytes) (ps : List Bytes) → tallyOf (p ∷ ps) .extremes ≡ extremesOf p ps
+tally-extremes : (f : ℕ) (p : Bytes) (ps : List Bytes) → tallyOf f (p ∷ ps) .extremes ≡ extremesOf p ps
 unfolding extremesOf tallied tallyWith noTally noExtremes extremesWith storedOf
-tally-extremes p ps =
-    let x-max = max-of 0 (λ t. t .extremes .«max_x») (λ t q. refl) refl p ps in
-    let x-min = min-of 0 (λ t. t .extremes .«min_x») (λ t q. refl) refl p ps in
-    let y-max = max-of 1 (λ t. t .extremes .«max_y») (λ t q. refl) refl p ps in
-    let y-min = min-of 1 (λ t. t .extremes .«min_y») (λ t q. refl) refl p ps in
-    let z-max = max-of 2 (λ t. t .extremes .«max_z») (λ t q. refl) refl p ps in
-    let z-min = min-of 2 (λ t. t .extremes .«min_z») (λ t q. refl) refl p ps in
+tally-extremes f p ps =
+    let x-max = max-of f 0 (λ t. t .extremes .«max_x») (λ t q. refl) refl p ps in
+    let x-min = min-of f 0 (λ t. t .extremes .«min_x») (λ t q. refl) refl p ps in
+    let y-max = max-of f 1 (λ t. t .extremes .«max_y») (λ t q. refl) refl p ps in
+    let y-min = min-of f 1 (λ t. t .extremes .«min_y») (λ t q. refl) refl p ps in
+    let z-max = max-of f 2 (λ t. t .extremes .«max_z») (λ t q. refl) refl p ps in
+    let z-min = min-of f 2 (λ t. t .extremes .«min_z») (λ t q. refl) refl p ps in
     λ i. record { «max_x» = x-max i; «min_x» = x-min i; «max_y» = y-max i; «min_y» = y-min i; «max_z» = z-max i; «min_z» = z-min i }
 
-pub tally-bounds : (c : Scaling) (ps : List Bytes) → boundNumbers (tallyBounds (tallyOf ps) c) ≡ bounds c ps
+pub tally-bounds : (f : ℕ) (c : Scaling) (ps : List Bytes) → boundNumbers (tallyBounds (tallyOf f ps) c) ≡ bounds c ps
 unfolding bounds tallyBounds boundsUnless
-tally-bounds c [] = unfold tallyOf noTally boundNumbers zeroBounds in refl
-tally-bounds c (p ∷ ps) =
-    let some : eqb (tallyOf (p ∷ ps) .count) 0 ≡ false = ne-eqb (tallyOf (p ∷ ps) .count) 0 (λ e. omega (arith, e, tally-count (p ∷ ps))) in
-    rw (some, tally-extremes p ps)
+tally-bounds f c [] = unfold tallyOf noTally boundNumbers zeroBounds in refl
+tally-bounds f c (p ∷ ps) =
+    let some : eqb (tallyOf f (p ∷ ps) .count) 0 ≡ false = ne-eqb (tallyOf f (p ∷ ps) .count) 0 (λ e. omega (arith, e, tally-count f (p ∷ ps))) in
+    rw (some, tally-extremes f p ps)

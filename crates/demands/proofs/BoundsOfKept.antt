@@ -12,6 +12,7 @@ use Rattle.fields.specs.Bytes.{Bytes, part, zeros}
 use Rattle.fields.proofs.ListLaws.{length-kept}
 use Rattle.scaling.specs.Scaling.{scalingOf}
 use Rattle.coordinates.specs.Axes.{Axis}
+use Rattle.headerfields.specs.HeaderFields.{format}
 use Rattle.lasfile.proofs.Passed.{passed}
 use Rattle.numberruns.specs.NumberRuns.{numbersBytes}
 use Rattle.numberruns.proofs.NumberLaws.{numbers-back}
@@ -19,7 +20,7 @@ use Rattle.publicpart.specs.Bounds.{returnOf, bins, bounds}
 use Rattle.publicpart.specs.Public.{publicOf}
 use Rattle.publicpart.proofs.BoundLaws.{length-bins, bounds-none}
 use Rattle.publicpart.proofs.BinLaws.{withReturn, bin-at, five-bins}
-use Rattle.publicpart.proofs.PublicLaws.{carried-scaled, public-carried, public-points}
+use Rattle.publicpart.proofs.PublicLaws.{carried-format, carried-scaled, public-carried, public-points}
 use Rattle.publicpart.proofs.Back.{bins-back, bounds-back}
 use Rattle.demands.specs.Terms.{Good}
 use Rattle.demands.specs.Complete.{keptPoints}
@@ -33,8 +34,8 @@ module _ (sheet f : Bytes) (good : Good f) (k : ℕ) where
   bounds-are : part 179 48 (released sheet f k) ≡ numbersBytes 8 (bounds (scalingOf f) (keptPoints sheet f))
   bounds-are = bounds-back (publicOf sheet f) (public-sound sheet f good) k ∙ rw (public-carried sheet f, carried-scaled f, public-points sheet f)
 
-  bins-are : part 111 20 (released sheet f k) ≡ numbersBytes 4 (bins 5 (keptPoints sheet f))
-  bins-are = bins-back (publicOf sheet f) (public-sound sheet f good) k ∙ rw (public-points sheet f)
+  bins-are : part 111 20 (released sheet f k) ≡ numbersBytes 4 (bins 5 (format f) (keptPoints sheet f))
+  bins-are = bins-back (publicOf sheet f) (public-sound sheet f good) k ∙ rw (public-carried sheet f, carried-format f, public-points sheet f)
 
   few : length (keptPoints sheet f) < 256 ^ 4
   few = rw (public-points sheet f) at (public-sound sheet f good .pointCount)
@@ -50,17 +51,18 @@ module _ (sheet f : Bytes) (good : Good f) (k : ℕ) where
       bounds-are ∙ ap (λ (l : List Bytes). numbersBytes 8 (bounds (scalingOf f) l)) e ∙ bounds-none (scalingOf f)
   no-points-released (q ∷ qs) e h = absurd (omega arith)
 
-  bin-is : (i : ℕ) → i < 5 → binOf (released sheet f k) (1 + i) ≡ withReturn (keptPoints sheet f) (1 + i)
+  bin-is : (i : ℕ) → i < 5 → binOf (released sheet f k) (1 + i) ≡ withReturn (format f) (keptPoints sheet f) (1 + i)
   unfolding binOf
   bin-is i h =
       let ps : List Bytes = keptPoints sheet f in
-      let five : length (bins 5 ps) ≡ 5 = length-bins 5 ps in
-      let bin : getD (bins 5 ps) i 0 ≡ withReturn ps (1 + i) = bin-at 5 ps i h in
-      let small : getD (bins 5 ps) i 0 < 256 ^ 4 = rw bin (omega (arith, few, length-kept (λ p. eqb (returnOf p) (1 + i)) ps)) in
+      let counts : List ℕ = bins 5 (format f) ps in
+      let five : length counts ≡ 5 = length-bins 5 (format f) ps in
+      let bin : getD counts i 0 ≡ withReturn (format f) ps (1 + i) = bin-at 5 (format f) ps i h in
+      let small : getD counts i 0 < 256 ^ 4 = rw bin (omega (arith, few, length-kept (λ p. eqb (returnOf (format f) p) (1 + i)) ps)) in
       let e : 107 + 4 * (1 + i) ≡ 111 + i * 4 = omega arith in
-      rw e (numbers-back (released sheet f k) 111 4 i (bins 5 ps) (rw five bins-are) (rw five h) small ∙ bin)
+      rw e (numbers-back (released sheet f k) 111 4 i counts (rw five bins-are) (rw five h) small ∙ bin)
 
-  binned-released : Binned (released sheet f k) (keptPoints sheet f)
+  binned-released : Binned f (released sheet f k) (keptPoints sheet f)
   unfolding total
   binned-released =
       record {
@@ -68,7 +70,7 @@ module _ (sheet f : Bytes) (good : Good f) (k : ℕ) where
         at-most =
             omega (
               arith,
-              five-bins (keptPoints sheet f),
+              five-bins (format f) (keptPoints sheet f),
               bin-is 0 (lit≤ tt),
               bin-is 1 (lit≤ tt),
               bin-is 2 (lit≤ tt),
@@ -77,7 +79,7 @@ module _ (sheet f : Bytes) (good : Good f) (k : ℕ) where
             );
       }
     where
-      each : (r : ℕ) → 1 ≤ r → r ≤ 5 → binOf (released sheet f k) r ≡ withReturn (keptPoints sheet f) r
+      each : (r : ℕ) → 1 ≤ r → r ≤ 5 → binOf (released sheet f k) r ≡ withReturn (format f) (keptPoints sheet f) r
       each zero l h = absurd (not-suc-le-zero l)
       each (suc i) l h = let e : suc i ≡ 1 + i = omega arith in rw e (bin-is i (omega arith))
 
@@ -100,5 +102,5 @@ bounds-of-kept =
       binned =
           λ sheet f a n q r h.
           let m : Known sheet f a n q r = accepted-means sheet f a n q r h in
-          of-output sheet f a n q r (λ out. Binned out (keptPoints sheet f)) m (λ k. binned-released sheet f (m .good) k);
+          of-output sheet f a n q r (λ out. Binned f out (keptPoints sheet f)) m (λ k. binned-released sheet f (m .good) k);
     }

@@ -11,6 +11,7 @@ use Rattle.fields.specs.Bytes.{Bytes, part, num, zeros}
 use Rattle.doubles.specs.Coordinate.{coordinateOf}
 use Rattle.scaling.specs.Scaling.{doubleAt, scalingOf}
 use Rattle.coordinates.specs.Axes.{Axis, X, Y, Z, scaleOf, offsetOf}
+use Rattle.headerfields.specs.HeaderFields.{format}
 use Rattle.publicpart.specs.Bounds.{returnOf, stored}
 use Rattle.demands.specs.Complete.{keptPoints}
 use Rattle.demands.specs.Terms.{Accepted, OfOutput}
@@ -51,8 +52,9 @@ pub record Bounded (f out : Bytes) (points : List Bytes) (axis : Axis) : Type 0 
 unfoldable pub binOf : Bytes → ℕ → ℕ
 binOf s r = num (part (107 + 4 * r) 4 s)
 
-pub record Binned (out : Bytes) (points : List Bytes) : Type 0 where
-  pub each : (r : ℕ) → 1 ≤ r → r ≤ 5 → binOf out r ≡ length (kept (λ p. eqb (returnOf p) r) points)
+-- the points are of the file f's format
+pub record Binned (f out : Bytes) (points : List Bytes) : Type 0 where
+  pub each : (r : ℕ) → 1 ≤ r → r ≤ 5 → binOf out r ≡ length (kept (λ p. eqb (returnOf (format f) p) r) points)
   pub at-most : total (binOf out) (1 ∷ 2 ∷ 3 ∷ 4 ∷ 5 ∷ []) ≤ length points
 
 -- ---- of the output of an accepted release
@@ -65,4 +67,4 @@ pub record BoundsOfKept : Type 0 where
   pub no-points : (sheet f a : Bytes) (n points records : ℕ) → Accepted sheet f a n points records
       → points ≡ 0 → OfOutput sheet f a n (λ out. part 179 48 out ≡ zeros 48)
   pub binned : (sheet f a : Bytes) (n points records : ℕ) → Accepted sheet f a n points records
-      → OfOutput sheet f a n (λ out. Binned out (keptPoints sheet f))
+      → OfOutput sheet f a n (λ out. Binned f out (keptPoints sheet f))

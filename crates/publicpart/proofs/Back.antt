@@ -34,7 +34,7 @@ module _ (p : Public) (h : Sound p) where
         ids = h .carried .ids;
         system = h .carried .system .short;
         software = h .carried .software .short;
-        bins = length-bins 5 (p .points);
+        bins = length-bins 5 (p .carried .format) (p .points);
         scaling = h .carried .scaling;
         bounds = length-bounds (scalingIn (p .carried .scaling)) (p .points);
       }
@@ -86,7 +86,7 @@ module _ (p : Public) (h : Sound p) where
     unfolding headOf
     scaling-back = field 14 (lit< tt)
 
-    pub bins-back : part 111 20 file ≡ numbersBytes 4 (bins 5 (p .points))
+    pub bins-back : part 111 20 file ≡ numbersBytes 4 (bins 5 (p .carried .format) (p .points))
     unfolding headOf
     bins-back = field 13 (lit< tt)
 

@@ -11,11 +11,21 @@ use lib.Dec.{eqb}
 use lib.ListN.{length, getD}
 use Rattle.fields.specs.Lists.{kept, consIf, total}
 use Rattle.fields.specs.Bytes.{Bytes}
+use Rattle.points.specs.Points.{bit}
 use Rattle.publicpart.specs.Bounds.{upFrom, returnOf, bins}
 
--- how many points have return number r
-abbrev pub withReturn : List Bytes → ℕ → ℕ
-withReturn ps r = length (kept (λ p. eqb (returnOf p) r) ps)
+-- ---- a count that goes up by one where a test holds
+
+pub length-consIf : {A : Type 0} (b : Bool) (x : A) (xs : List A) → length (consIf b x xs) ≡ bit b + length xs
+unfolding consIf bit
+length-consIf true x xs = omega arith
+length-consIf false x xs = omega arith
+
+-- ---- each bin by its return number
+
+-- how many points of a format have return number r
+abbrev pub withReturn : ℕ → List Bytes → ℕ → ℕ
+withReturn f ps r = length (kept (λ p. eqb (returnOf f p) r) ps)
 
 counted-at : (g : ℕ → ℕ) (n from i : ℕ) → i < n → getD (map g (upFrom from n)) i 0 ≡ g (from + i)
 unfolding upFrom
@@ -24,34 +34,30 @@ counted-at g (suc n) from zero h = ap g (omega arith)
 counted-at g (suc n) from (suc i) h = counted-at g n (suc from) i (omega arith) ∙ ap g (omega arith)
 
 -- bin i of those counted from 0 is that of return number i + 1
-pub bin-at : (n : ℕ) (ps : List Bytes) (i : ℕ) → i < n → getD (bins n ps) i 0 ≡ withReturn ps (1 + i)
+pub bin-at : (n f : ℕ) (ps : List Bytes) (i : ℕ) → i < n → getD (bins n f ps) i 0 ≡ withReturn f ps (1 + i)
 unfolding bins
-bin-at n ps i h = counted-at (withReturn ps) n 1 i h
+bin-at n f ps i h = counted-at (withReturn f ps) n 1 i h
+
+pub bins-listed : (f : ℕ) (ps : List Bytes)
+    → bins 5 f ps ≡ withReturn f ps 1 ∷ withReturn f ps 2 ∷ withReturn f ps 3 ∷ withReturn f ps 4 ∷ withReturn f ps 5 ∷ []
+unfolding bins upFrom
+bins-listed f ps = refl
 
 -- ---- each point is in one bin at most
 
-one : Bool → ℕ
-one true = 1
-one false = 0
-
-one-more : (b : Bool) (p : Bytes) (ps : List Bytes) → length (consIf b p ps) ≡ one b + length ps
-unfolding consIf one
-one-more true p ps = omega arith
-one-more false p ps = omega arith
-
 -- numbers above x
-none-above : (x from n : ℕ) → x < from → total (λ r. one (eqb x r)) (upFrom from n) ≡ 0
-unfolding total upFrom one
+none-above : (x from n : ℕ) → x < from → total (λ r. bit (eqb x r)) (upFrom from n) ≡ 0
+unfolding total upFrom bit
 none-above x from zero h = refl
 none-above x from (suc n) h = rw (ne-eqb x from (λ e. omega arith)) (omega (arith, none-above x (suc from) n (omega arith)))
 
-one-at-most : (x from n : ℕ) (b : Bool) → eqb x from ≡ b → total (λ r. one (eqb x r)) (upFrom (suc from) n) ≤ 1
-    → one b + total (λ r. one (eqb x r)) (upFrom (suc from) n) ≤ 1
-unfolding one
+one-at-most : (x from n : ℕ) (b : Bool) → eqb x from ≡ b → total (λ r. bit (eqb x r)) (upFrom (suc from) n) ≤ 1
+    → bit b + total (λ r. bit (eqb x r)) (upFrom (suc from) n) ≤ 1
+unfolding bit
 one-at-most x from n true e h = omega (arith, none-above x (suc from) n (omega (arith, eqb-true x from e)))
 one-at-most x from n false e h = omega arith
 
-in-one : (x from n : ℕ) → total (λ r. one (eqb x r)) (upFrom from n) ≤ 1
+in-one : (x from n : ℕ) → total (λ r. bit (eqb x r)) (upFrom from n) ≤ 1
 unfolding total upFrom
 in-one x from zero = omega arith
 in-one x from (suc n) = one-at-most x from n (eqb x from) refl (in-one x (suc from) n)
@@ -66,18 +72,18 @@ unfolding total
 total-zero [] = refl
 total-zero (r ∷ rs) = omega (arith, total-zero rs)
 
-bins-total : (from n : ℕ) (ps : List Bytes) → total (withReturn ps) (upFrom from n) ≤ length ps
+bins-total : (f from n : ℕ) (ps : List Bytes) → total (withReturn f ps) (upFrom from n) ≤ length ps
 unfolding kept
-bins-total from n [] = omega (arith, total-zero (upFrom from n))
-bins-total from n (p ∷ ps) =
+bins-total f from n [] = omega (arith, total-zero (upFrom from n))
+bins-total f from n (p ∷ ps) =
     omega (
       arith,
-      split (withReturn (p ∷ ps)) (λ r. one (eqb (returnOf p) r)) (withReturn ps)
-          (λ r. one-more (eqb (returnOf p) r) p (kept (λ q. eqb (returnOf q) r) ps)) (upFrom from n),
-      in-one (returnOf p) from n,
-      bins-total from n ps,
+      split (withReturn f (p ∷ ps)) (λ r. bit (eqb (returnOf f p) r)) (withReturn f ps)
+          (λ r. length-consIf (eqb (returnOf f p) r) p (kept (λ q. eqb (returnOf f q) r) ps)) (upFrom from n),
+      in-one (returnOf f p) from n,
+      bins-total f from n ps,
     )
 
-pub five-bins : (ps : List Bytes) → total (withReturn ps) (1 ∷ 2 ∷ 3 ∷ 4 ∷ 5 ∷ []) ≤ length ps
+pub five-bins : (f : ℕ) (ps : List Bytes) → total (withReturn f ps) (1 ∷ 2 ∷ 3 ∷ 4 ∷ 5 ∷ []) ≤ length ps
 unfolding upFrom
-five-bins ps = bins-total 1 5 ps
+five-bins f ps = bins-total f 1 5 ps

@@ -16,9 +16,9 @@ unfolding upFrom
 length-upFrom from zero = refl
 length-upFrom from (suc n) = ap suc (length-upFrom (suc from) n)
 
-pub length-bins : (n : ℕ) (ps : List Bytes) → length (bins n ps) ≡ n
+pub length-bins : (n f : ℕ) (ps : List Bytes) → length (bins n f ps) ≡ n
 unfolding bins
-length-bins n ps = simp (length-map, length-upFrom)
+length-bins n f ps = simp (length-map, length-upFrom)
 
 pub length-bounds : (c : Scaling) (ps : List Bytes) → length (bounds c ps) ≡ 6
 unfolding bounds boundNumbers

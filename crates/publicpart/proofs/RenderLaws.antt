@@ -34,7 +34,7 @@ module _ (p : Public) where
 
   -- a header that says this is the released file's
   pub head-of : (h : Head) → h .carried ≡ p .carried → h .offset ≡ newOffset p → h .records ≡ length (p .records) → h .points ≡ length (p .points)
-      → h .bins ≡ bins 5 (p .points) → h .bounds ≡ bounds (scalingIn (p .carried .scaling)) (p .points) → h ≡ headOf p
+      → h .bins ≡ bins 5 (p .carried .format) (p .points) → h .bounds ≡ bounds (scalingIn (p .carried .scaling)) (p .points) → h ≡ headOf p
   unfolding headOf
   head-of h carried offset records points bins bounds =
       λ i. record { carried = carried i; offset = offset i; records = records i; points = points i; bins = bins i; bounds = bounds i }

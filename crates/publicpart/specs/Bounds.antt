@@ -24,13 +24,13 @@ unfoldable pub upFrom : ℕ → ℕ → List ℕ
 upFrom from zero = []
 upFrom from (suc n) = from ∷ upFrom (suc from) n
 
--- a point's return number
-unfoldable pub returnOf : Bytes → ℕ
-returnOf p = bits 0 3 (getD p 14 0)
+-- a point's return number, by its format; all four have it in one place
+unfoldable pub returnOf : ℕ → Bytes → ℕ
+returnOf f p = bits 0 3 (getD p 14 0)
 
--- bin r of the n bins counts return number r; other numbers are in no bin
-unfoldable pub bins : ℕ → List Bytes → List ℕ
-bins n ps = map (λ r. length (kept (λ p. eqb (returnOf p) r) ps)) (upFrom 1 n)
+-- bin r of the n bins counts return number r among points of a format; other numbers are in no bin
+unfoldable pub bins : ℕ → ℕ → List Bytes → List ℕ
+bins n f ps = map (λ r. length (kept (λ p. eqb (returnOf f p) r) ps)) (upFrom 1 n)
 
 -- ---- bounds
 

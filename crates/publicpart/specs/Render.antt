@@ -23,7 +23,7 @@ headOf p =
       offset = newOffset p;
       records = length (p .records);
       points = length (p .points);
-      bins = bins 5 (p .points);
+      bins = bins 5 (p .carried .format) (p .points);
       bounds = bounds (scalingIn (p .carried .scaling)) (p .points);
     }
 

@@ -30,7 +30,7 @@ use Rattle.publicpart.specs.Public.{Public, contents, publicOf}
 use Rattle.publicpart.specs.Head.{Head, headFields}
 use Rattle.publicpart.specs.Render.{newOffset, headOf, render}
 use Rattle.publicpart.proofs.Sound.{Sound, sound, sound-restrict}
-use Rattle.publicpart.proofs.PublicLaws.{carried-length, carried-scaled, contents-points, public-is, public-carried, public-points}
+use Rattle.publicpart.proofs.PublicLaws.{carried-format, carried-length, carried-scaled, contents-points, public-is, public-carried, public-points}
 use Rattle.publicpart.proofs.HeadLaws.{length-head}
 use Rattle.publicpart.proofs.RenderLaws.{new-offset, total-length, render-parts, head-of}
 use Rattle.publicpart.proofs.LengthLaws.{no-longer}
@@ -77,6 +77,9 @@ module _ (sheet s : Bytes) (bytes : AllBytes s) (passes : fileVerdict s ≡ Pass
   sound-part : Sound part-of
   sound-part = rw (public-is sheet s) (sound-restrict sheet (contents s) (sound s bytes (passed s passes)))
 
+  format-is : part-of .carried .format ≡ format s
+  format-is = rw (public-carried sheet s) (carried-format s)
+
   length-is : part-of .carried .recordLength ≡ recordLength s
   length-is = rw (public-carried sheet s) (carried-length s)
 
@@ -112,13 +115,14 @@ module _ (sheet s : Bytes) (bytes : AllBytes s) (passes : fileVerdict s ≡ Pass
   -- ---- the header is that of the public part's points
 
   abbrev own : Totals
-  own = totalsOf s (tallyOf (part-of .points)) (length (part-of .records)) (newOffset part-of)
+  own = totalsOf s (tallyOf (format s) (part-of .points)) (length (part-of .records)) (newOffset part-of)
 
   head-is : headWith s own ≡ headOf part-of
   head-is =
       let ps : List Bytes = part-of .points in
-      rw (head-said s (tallyOf ps) (length (part-of .records)) (newOffset part-of))
-      (head-of part-of _ (sym (public-carried sheet s)) refl refl (tally-count ps) (tally-bins ps) (rw scaling-is (tally-bounds (scalingOf s) ps)))
+      rw (head-said s (tallyOf (format s) ps) (length (part-of .records)) (newOffset part-of))
+      (head-of part-of _ (sym (public-carried sheet s)) refl refl (tally-count (format s) ps) (rw format-is (tally-bins (format s) ps))
+      (rw scaling-is (tally-bounds (format s) (scalingOf s) ps)))
 
   own-head : headBytes s own ≡ head
   own-head = whole-head s own (passed s passes .whole) ∙ ap (λ (k : Head). join (headFields k)) head-is

@@ -36,9 +36,9 @@ bins-with b k n m u h =
     }
 
 -- one point more
-pub counts-with : (t : Tally) (p : Bytes) (n m : ℕ) → CountsUpTo t n → n + 1 ≤ m → CountsUpTo (tallied t p) m
+pub counts-with : (f : ℕ) (t : Tally) (p : Bytes) (n m : ℕ) → CountsUpTo t n → n + 1 ≤ m → CountsUpTo (tallied f t p) m
 unfolding tallied tallyWith
-counts-with t p n m u h = record { total = omega (arith, u .total); each = bins-with (t .bins) (returnOf p) n m (u .each) h }
+counts-with f t p n m u h = record { total = omega (arith, u .total); each = bins-with (t .bins) (returnOf f p) n m (u .each) h }
 
 -- a bound further up
 pub counts-up : (t : Tally) (n m : ℕ) → CountsUpTo t n → n ≤ m → CountsUpTo t m

@@ -13,24 +13,24 @@ use Rattle.tally.specs.Tally.{noTally, tallied, tallyOf, CountsUpTo}
 use Rattle.tally.proofs.CountLaws.{counts-with, counts-none}
 
 -- what holds where `left` of the `count` records are left, the next one at `at`
-pub record Running (len : ℕ) (run : Bytes) (count left at : ℕ) (t : Tally) : Type 0 where
+pub record Running (f len : ℕ) (run : Bytes) (count left at : ℕ) (t : Tally) : Type 0 where
   pub few : left ≤ count
   pub within : at + left * len ≤ length run
   pub counts : CountsUpTo t (count - left)
-  pub same : foldl tallied t (pieces left len (drop at run)) ≡ tallyOf (pieces count len run)
+  pub same : foldl (tallied f) t (pieces left len (drop at run)) ≡ tallyOf f (pieces count len run)
 
-module _ (len : ℕ) (run : Bytes) (count : ℕ) where
-  pub start : count * len ≤ length run → Running len run count count 0 noTally
+module _ (f len : ℕ) (run : Bytes) (count : ℕ) where
+  pub start : count * len ≤ length run → Running f len run count count 0 noTally
   unfolding tallyOf
   start h = record { few = omega arith; within = omega arith; counts = counts-none (count - count); same = refl }
 
-  pub ended : (left at : ℕ) (t : Tally) → Running len run count left at t → left ≡ 0 → t ≡ tallyOf (pieces count len run)
+  pub ended : (left at : ℕ) (t : Tally) → Running f len run count left at t → left ≡ 0 → t ≡ tallyOf f (pieces count len run)
   unfolding pieces
   ended left at t r e =
-      let s : foldl tallied t (pieces 0 len (drop at run)) ≡ tallyOf (pieces count len run) = rw e at (r .same) in
+      let s : foldl (tallied f) t (pieces 0 len (drop at run)) ≡ tallyOf f (pieces count len run) = rw e at (r .same) in
       s
 
-  module _ (left at : ℕ) (t : Tally) (r : Running len run count left at t) (more : 0 < left) where
+  module _ (left at : ℕ) (t : Tally) (r : Running f len run count left at t) (more : 0 < left) where
     -- the next record lies within the run
     pub next-in : at + len ≤ length run
     next-in = omega (arith, r .within, mul-step left len more)
@@ -38,15 +38,15 @@ module _ (len : ℕ) (run : Bytes) (count : ℕ) where
     rest : pieces left len (drop at run) ≡ take len (drop at run) ∷ pieces (left - 1) len (drop (at + len) run)
     rest = rw (pieces-step left len (drop at run) more, drop-drop len at run)
 
-    turn : Running len run count (left - 1) (at + len) (tallied t (take len (drop at run)))
+    turn : Running f len run count (left - 1) (at + len) (tallied f t (take len (drop at run)))
     turn =
         record {
           few = omega (arith, r .few);
           within = omega (arith, r .within, mul-step left len more);
-          counts = counts-with t (take len (drop at run)) (count - left) (count - (left - 1)) (r .counts) (omega (arith, r .few));
+          counts = counts-with f t (take len (drop at run)) (count - left) (count - (left - 1)) (r .counts) (omega (arith, r .few));
           same = rw rest at (r .same);
         }
 
     -- a turn of the loop: what the tally becomes by the n bytes of a record
-    pub turned : (t′ : Tally) (n : ℕ) → t′ ≡ tallied t (take n (drop at run)) → n ≡ len → Running len run count (left - 1) (at + len) t′
+    pub turned : (t′ : Tally) (n : ℕ) → t′ ≡ tallied f t (take n (drop at run)) → n ≡ len → Running f len run count (left - 1) (at + len) t′
     turned t′ n e g = rw (e, g) turn

@@ -35,13 +35,13 @@ noTally = record { count = 0; bins = record { first = 0; second = 0; third = 0; 
 unfoldable pub tallyWith : Tally → ℕ → Stored → Tally
 tallyWith t n p = record { count = t .count + 1; bins = binsWith (t .bins) n; extremes = extremesWith (t .extremes) p }
 
--- the tally with one point more, out of its bytes
-unfoldable pub tallied : Tally → Bytes → Tally
-tallied t p = tallyWith t (returnOf p) (storedOf p)
+-- the tally with one point more, by its format and bytes
+unfoldable pub tallied : ℕ → Tally → Bytes → Tally
+tallied f t p = tallyWith t (returnOf f p) (storedOf p)
 
--- the tally of points
-unfoldable pub tallyOf : List Bytes → Tally
-tallyOf ps = foldl tallied noTally ps
+-- the tally of points of a format
+unfoldable pub tallyOf : ℕ → List Bytes → Tally
+tallyOf f ps = foldl (tallied f) noTally ps
 
 -- ---- what the code's helpers require: no count is above n
 

@@ -6,6 +6,7 @@ ghost use lib.Dec.{eqb};
 ghost use Rattle.fields.specs.Bytes.{pieces};
 ghost use Rattle.points.specs.Points.{bit};
 ghost use Rattle.pointruns.specs.PointRuns.{pointsOf};
+ghost use Rattle.publicpart.specs.Bounds.{returnOf};
 ghost use Rattle.tally.specs.Tally.{noTally, binsWith, tallyWith, tallied, tallyOf, BinsUpTo, CountsUpTo};
 use scaling::Extremes;
 use stored::Stored;
@@ -102,38 +103,46 @@ fn step(t: Tally, n: u8, p: Stored) -> Tally
     u
 }
 
+// The return number of a point, by its format and bytes.
+fn return_of(format: u8, point: &[u8]) -> u8
+    requires { ⌜ 20 ≤ length (now point) ⌝ }
+    ensures { λ r. ⌜ r ≡ returnOf format (now (point .entry)) ⌝ }
+{
+    point[14] % 8
+}
+
 // The tally with the point of these bytes.
-fn add_point(t: Tally, point: &[u8]) -> Tally
+fn add_point(t: Tally, format: u8, point: &[u8]) -> Tally
     requires { ⌜ CountsUpTo t 4294967295 ⌝ }
     requires { ⌜ 20 ≤ length (now point) ⌝ }
-    ensures { λ r. ⌜ r ≡ tallied t (now (point .entry)) ⌝ }
+    ensures { λ r. ⌜ r ≡ tallied format t (now (point .entry)) ⌝ }
 {
-    step(t, point[14] % 8, stored::stored_of(point))
+    step(t, return_of(format, point), stored::stored_of(point))
 }
 
 // The tally of the points of a run that holds them all.
-fn tally_run(run: &[u8], record_length: usize, count: usize) -> Tally
+fn tally_run(run: &[u8], format: u8, record_length: usize, count: usize) -> Tally
     requires { ⌜ (20 ≤ «record_length») × (count < 4294967296) × (count * «record_length» ≤ length (now run)) ⌝ }
-    ensures { λ r. ⌜ r ≡ tallyOf (pieces count «record_length» (now (run .entry))) ⌝ }
+    ensures { λ r. ⌜ r ≡ tallyOf format (pieces count «record_length» (now (run .entry))) ⌝ }
 {
     let mut t = fresh();
     let mut at = 0;
     let mut left = count;
     while 0 < left {
         let next = at + record_length;
-        t = add_point(t, &run[at..next]);
+        t = add_point(t, format, &run[at..next]);
         at = next;
         left -= 1;
     }
     t
 }
 
-// The tally of the first `count` records of `run`, `record_length` bytes each; of no point where the run does not hold them.
-pub fn tally_points(run: &[u8], record_length: usize, count: usize) -> Tally
-    ensures { λ r. ⌜ r ≡ tallyOf (pointsOf count «record_length» (now (run .entry))) ⌝ }
+// The tally of the first `count` records of `run`, points of a format, `record_length` bytes each; of no point where the run does not hold them.
+pub fn tally_points(run: &[u8], format: u8, record_length: usize, count: usize) -> Tally
+    ensures { λ r. ⌜ r ≡ tallyOf format (pointsOf count «record_length» (now (run .entry))) ⌝ }
 {
     if pointruns::holds(run.len(), record_length, count) {
-        return tally_run(run, record_length, count);
+        return tally_run(run, format, record_length, count);
     }
     fresh()
 }

@@ -1,5 +1,4 @@
 -- `tally::add_point` meets its contract. Assumes nothing.
-use mathlib.Core.Path.{refl}
 use Rattle.tally.proofs.TallyLaws.{tallied-by}
 use borrow.Author.Needs.{needs}
 use Rattle.tally.proofs.add_point.Statement.{statement}
@@ -11,7 +10,7 @@ step-requires c κs = search needs
 returns : tie.Need-returns
 returns c =
     let a = c .before .before .before .before .args in
-    tallied-by (a .t) _ _ _ (a .point .now) (c .step .ensures) refl (c .before .stored-of .ensures)
+    tallied-by (a .format) (a .t) _ _ _ (a .point .now) (c .step .ensures) (c .before .before .return-of .ensures) (c .before .stored-of .ensures)
 
 pub add-point-spec : {M : Type 1} → statement M
-add-point-spec = tie.close (tie.spec (λ c. search needs) (λ c κs. tt) step-requires returns)
+add-point-spec = tie.close (tie.spec (λ c κs. search needs) (λ c κs. tt) step-requires returns)

@@ -16,14 +16,14 @@ returns : tie.Need-returns
 returns c =
     let a = c .before .before .before .before .args in
     let h = in-run (a .count) (a .record-length) (length (a .run .now)) (sym (c .before .before .holds .ensures) ∙ c .before .if1 .taken) in
-    c .tally-run .ensures ∙ ap tallyOf (sym (points-held (a .count) (a .record-length) (a .run .now) h))
+    c .tally-run .ensures ∙ ap (tallyOf (a .format)) (sym (points-held (a .count) (a .record-length) (a .run .now) h))
 
 returns-2 : tie.Need-returns-2
 unfolding tallyOf
 returns-2 c =
     let a = c .before .before .before .before .args in
     let none = points-none (a .count) (a .record-length) (a .run .now) (sym (c .before .before .holds .ensures) ∙ c .before .if1 .left) in
-    c .fresh .ensures ∙ ap tallyOf (sym none)
+    c .fresh .ensures ∙ ap (tallyOf (a .format)) (sym none)
 
 pub tally-points-spec : {M : Type 1} → statement M
 tally-points-spec = tie.close (tie.spec (λ c κs. tt) tally-run-requires returns (λ c κs. tt) returns-2)

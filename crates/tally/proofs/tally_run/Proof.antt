@@ -10,23 +10,23 @@ use Rattle.tally.proofs.tally_run.Statement.{statement}
 use Rattle.tally.proofs.tally_run.Tie as tie
 
 abbrev Inv-loop : tie.InvT-loop
-Inv-loop run record-length count t₀ at₀ left₀ t at left = Running record-length run count left at t
+Inv-loop run format record-length count t₀ at₀ left₀ t at left = Running format record-length run count left at t
 
 abbrev μ-loop : tie.MeasureT-loop
-μ-loop run record-length count t₀ at₀ left₀ t at left = left
+μ-loop run format record-length count t₀ at₀ left₀ t at left = left
 
 loop-holds : tie.Need-loop-holds Inv-loop μ-loop
 loop-holds c =
     let s = c .before .before in
     let a = s .args in
-    rw (c .fresh .ensures) (start (a .record-length) (a .run .now) (a .count) (s .pre .2))
+    rw (c .fresh .ensures) (start (a .format) (a .record-length) (a .run .now) (a .count) (s .pre .2))
 
 -- in a turn the next record lies within the run
 inside : (c : tie.In-loop Inv-loop μ-loop) → c .before .loop .at + c .before .before .before .before .args .record-length ≤ length (c .before .before .before .before .args .run .now)
 inside c =
     let a = c .before .before .before .before .args in
     let l = c .before .loop in
-    next-in (a .record-length) (a .run .now) (a .count) (l .left) (l .at) (l .t) (l .inv) (omega arith)
+    next-in (a .format) (a .record-length) (a .run .now) (a .count) (l .left) (l .at) (l .t) (l .inv) (omega arith)
 
 add-next : tie.Need-add-next Inv-loop μ-loop
 add-next c = omega (arith, inside c)
@@ -60,14 +60,14 @@ loop-again : tie.Need-loop-again Inv-loop μ-loop
 loop-again c =
     let a = c .before .before .before .before .before .before .args in
     let l = c .before .before .before .loop in
-    turned (a .record-length) (a .run .now) (a .count) (l .left) (l .at) (l .t) (l .inv) (omega arith)
+    turned (a .format) (a .record-length) (a .run .now) (a .count) (l .left) (l .at) (l .t) (l .inv) (omega arith)
     (c .add-point .result) (l .at + a .record-length - l .at) (c .add-point .ensures) (omega arith)
 
 returns : tie.Need-returns Inv-loop μ-loop
 returns c =
     let a = c .before .before .before .before .args in
     let l = c .before .loop in
-    ended (a .record-length) (a .run .now) (a .count) (l .left) (l .at) (l .t) (l .inv) (omega arith)
+    ended (a .format) (a .record-length) (a .run .now) (a .count) (l .left) (l .at) (l .t) (l .inv) (omega arith)
 
 pub tally-run-spec : {M : Type 1} → statement M
 tally-run-spec =
