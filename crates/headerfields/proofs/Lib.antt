@@ -1,1 +1,1 @@
-pub mod BoundLaws
+pub mod FieldLaws

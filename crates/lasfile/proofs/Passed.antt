@@ -1,12 +1,21 @@
 -- A file passes the file checks exactly if all that they look at is as it should be.
 -- Assumes nothing.
+use mathlib.Core.Path.{_≡_, refl}
 use Prim.Native.Nat.{ℕ, _*_, _^_, _≤_, _<_}
 use native.Mathlib.Nat.{mul-le-mul}
 use native.Mathlib.Omega.{arith}
+use Rattle.fields.specs.Bytes.{Bytes}
 use Rattle.fields.specs.Checks.{AllClear}
 use Rattle.fields.proofs.CheckLaws.{none-fails, all-clear}
-use Rattle.lasfile.specs.FileChecks.{fileChecks, fileVerdict}
+use Rattle.headerfields.specs.HeaderFields.{headerSize, recordCount}
+use Rattle.records.specs.Records.{walkEnd}
+use Rattle.lasfile.specs.FileChecks.{recordsEnd, fileChecks, fileVerdict}
 use Rattle.lasfile.specs.Passed.{PassingTells, FactsPass}
+
+-- the place after the counted records, by the walk
+pub records-end : (s : Bytes) → recordsEnd s ≡ walkEnd 2 (recordCount s) (headerSize s) s
+unfolding recordsEnd
+records-end s = refl
 
 pub passed : PassingTells
 unfolding fileVerdict

@@ -9,9 +9,9 @@ use Rattle.fields.specs.declared.Verdict.the-variants.{Passes}
 use Rattle.records.specs.Records.{sizeOf, walkEnd}
 use Rattle.records.proofs.RecordLaws.{walkEnd-step, walk-grows, front-in-size}
 use Rattle.headerfields.specs.HeaderFields.{headerSize, recordCount, pointOffset}
-use Rattle.headerfields.proofs.BoundLaws.{offset-low}
-use Rattle.lasfile.specs.FileChecks.{recordsEnd, fileVerdict}
-use Rattle.lasfile.proofs.Passed.{passed}
+use Rattle.headerfields.proofs.FieldLaws.{offset-low}
+use Rattle.lasfile.specs.FileChecks.{fileVerdict}
+use Rattle.lasfile.proofs.Passed.{records-end, passed}
 
 -- `left` records from `at` on lie before the points
 pub record Walking (s : Bytes) (left at : ℕ) : Type 0 where
@@ -20,8 +20,7 @@ pub record Walking (s : Bytes) (left at : ℕ) : Type 0 where
   pub low : pointOffset s < 2 ^ 32
 
 pub begin : (s : Bytes) → AllBytes s → fileVerdict s ≡ Passes → Walking s (recordCount s) (headerSize s)
-unfolding recordsEnd
-begin s bytes e = record { inside = passed s e .walked; file = passed s e .offsetHigh; low = offset-low s bytes }
+begin s bytes e = record { inside = rw (records-end s) at (passed s e .walked); file = passed s e .offsetHigh; low = offset-low s bytes }
 
 module _ (s : Bytes) (left at : ℕ) (more : 0 < left) (w : Walking s left at) where
   pub one-more : left ≡ suc (left - 1)

@@ -12,11 +12,14 @@ use Rattle.fields.specs.Text.{cut}
 use Rattle.fields.proofs.ByteLaws.{num-bytesOf, pieces-back, length-join-pieces}
 use Rattle.records.specs.Records.{walk, recordsBytes}
 use Rattle.records.proofs.RecordLaws.{walk-back, walkEnd-back, length-recordsBytes}
-use Rattle.scaling.specs.Scaling.{scalingIn, scalingOf}
+use Rattle.scaling.specs.Scaling.{scalingIn}
+use Rattle.scaling.proofs.ScalingLaws.{scaling-in}
 use Rattle.numberruns.specs.NumberRuns.{numbersBytes}
 use Rattle.headerfields.specs.HeaderFields.{headerBlock, headerSize, pointOffset, recordCount, format, recordLength, pointCount}
+use Rattle.headerfields.proofs.FieldLaws.{size-written, offset-written, records-written, format-written, length-written, count-written}
 use Rattle.lasfile.specs.FileChecks.{recordsEnd}
 use Rattle.lasfile.specs.Passed.{Passed}
+use Rattle.lasfile.proofs.Passed.{records-end}
 use Rattle.publicpart.specs.Bounds.{bins, bounds}
 use Rattle.publicpart.specs.Public.{Public, carriedOf, contents}
 use Rattle.publicpart.specs.Head.{headWidths, headFields}
@@ -59,28 +62,27 @@ module _ (p : Public) (h : Sound p) where
     field i l = rw (render-parts p (zeros k)) (head-field (headOf p) fitting (recordsBytes 2 (p .records) ++ (join (p .points) ++ zeros k)) i l)
 
     headerSize-back : headerSize file ≡ headerBlock
-    unfolding headerSize
-    headerSize-back = rw (field 7 (lit< tt)) (num-bytesOf 2 headerBlock (lit< tt))
+    headerSize-back = size-written file headerBlock (field 7 (lit< tt)) (lit< tt)
 
     pointOffset-back : pointOffset file ≡ newOffset p
-    unfolding pointOffset headOf
-    pointOffset-back = rw (field 8 (lit< tt)) (num-bytesOf 4 (newOffset p) (h .offset))
+    unfolding headOf
+    pointOffset-back = offset-written file (newOffset p) (field 8 (lit< tt)) (h .offset)
 
     recordCount-back : recordCount file ≡ length (p .records)
-    unfolding recordCount headOf
-    recordCount-back = rw (field 9 (lit< tt)) (num-bytesOf 4 (length (p .records)) (h .recordCount))
+    unfolding headOf
+    recordCount-back = records-written file (length (p .records)) (field 9 (lit< tt)) (h .recordCount)
 
     format-back : format file ≡ p .carried .format
-    unfolding format headOf
-    format-back = rw (field 10 (lit< tt)) (num-bytesOf 1 (p .carried .format) (omega (arith, h .carried .format)))
+    unfolding headOf
+    format-back = format-written file (p .carried .format) (field 10 (lit< tt)) (omega (arith, h .carried .format))
 
     recordLength-back : recordLength file ≡ p .carried .recordLength
-    unfolding recordLength headOf
-    recordLength-back = rw (field 11 (lit< tt)) (num-bytesOf 2 (p .carried .recordLength) (h .carried .recordLength))
+    unfolding headOf
+    recordLength-back = length-written file (p .carried .recordLength) (field 11 (lit< tt)) (h .carried .recordLength)
 
     pointCount-back : pointCount file ≡ length (p .points)
-    unfolding pointCount headOf
-    pointCount-back = rw (field 12 (lit< tt)) (num-bytesOf 4 (length (p .points)) (h .pointCount))
+    unfolding headOf
+    pointCount-back = count-written file (length (p .points)) (field 12 (lit< tt)) (h .pointCount)
 
     scaling-back : part 131 48 file ≡ p .carried .scaling
     unfolding headOf
@@ -103,9 +105,8 @@ module _ (p : Public) (h : Sound p) where
         (walk-back 2 (p .records) (h .records) headerBlock (join (headFields (headOf p))) (join (p .points) ++ zeros k) (length-head (headOf p) fitting))
 
     recordsEnd-is : recordsEnd file ≡ newOffset p
-    unfolding recordsEnd
     recordsEnd-is =
-        rw (new-offset p, recordCount-back, headerSize-back, render-parts p (zeros k))
+        rw (records-end file, new-offset p, recordCount-back, headerSize-back, render-parts p (zeros k))
         (walkEnd-back 2 (p .records) (h .records) headerBlock (join (headFields (headOf p))) (join (p .points) ++ zeros k) (length-head (headOf p) fitting))
 
     offset-is : length (join (headFields (headOf p)) ++ recordsBytes 2 (p .records)) ≡ newOffset p
@@ -137,7 +138,7 @@ module _ (p : Public) (h : Sound p) where
           offsetHigh = omega (arith, pointOffset-back, length-file);
           walked = omega (arith, recordsEnd-is, pointOffset-back);
           pointed = rw (pointOffset-back, pointCount-back, recordLength-back) (omega (arith, length-file));
-          scaled = unfold scalingOf in rw scaling-back (h .carried .scaled);
+          scaled = rw (scaling-in file, scaling-back) (h .carried .scaled);
         }
 
     carried-back : carriedOf file ≡ p .carried

@@ -7,11 +7,11 @@ use lib.ListN.{length, drop}
 use Rattle.fields.specs.Bytes.{Bytes, AllBytes}
 use Rattle.fields.proofs.ListLaws.{total-kept, length-kept}
 use Rattle.fields.proofs.ByteLaws.{length-pieces}
-use Rattle.records.specs.Records.{recordLen}
+use Rattle.records.specs.Records.{walkEnd, recordLen}
 use Rattle.records.proofs.RecordLaws.{walk-total}
 use Rattle.headerfields.specs.HeaderFields.{headerSize, pointOffset, recordCount, recordLength, pointCount}
-use Rattle.lasfile.specs.FileChecks.{recordsEnd}
 use Rattle.lasfile.specs.Passed.{Passed}
+use Rattle.lasfile.proofs.Passed.{records-end}
 use Rattle.keeping.specs.Keeping.{keepsPoint}
 use Rattle.publicpart.specs.Public.{Public, carriedOf, contents, restrict, publicOf, keptRecord}
 use Rattle.publicpart.specs.Render.{newOffset, totals}
@@ -27,14 +27,14 @@ restrict-shorter sheet p =
     )
 
 module _ (s : Bytes) (bytes : AllBytes s) (p : Passed s) where
-  inside : recordsEnd s ≤ length s
-  inside = omega arith
+  inside : walkEnd 2 (recordCount s) (headerSize s) s ≤ length s
+  inside = omega (arith, records-end s)
 
   contents-fit : totals (contents s) .fileLength ≤ length s
-  unfolding totals contents carriedOf newOffset recordsEnd
+  unfolding totals contents carriedOf newOffset
   contents-fit =
       rw (length-pieces (pointCount s) (recordLength s) (drop (pointOffset s) s))
-      (omega (arith, walk-total 2 s bytes (recordCount s) (headerSize s) inside, p .walked, p .headerLow, p .pointed))
+      (omega (arith, walk-total 2 s bytes (recordCount s) (headerSize s) inside, records-end s, p .walked, p .headerLow, p .pointed))
 
   pub no-longer : (sheet : Bytes) → totals (publicOf sheet s) .fileLength ≤ length s
   no-longer sheet = rw (public-is sheet s) (omega (arith, restrict-shorter sheet (contents s), contents-fit))

@@ -8,6 +8,7 @@ use Rattle.fields.specs.Text.{cut}
 use Rattle.fields.proofs.ListLaws.{kept-kept, kept-comm}
 use Rattle.records.specs.Records.{walk}
 use Rattle.scaling.specs.Scaling.{scalingIn, scalingOf}
+use Rattle.scaling.proofs.ScalingLaws.{scaling-in}
 use Rattle.headerfields.specs.HeaderFields.{headerSize, pointOffset, recordCount, format, recordLength, pointCount}
 use Rattle.keeping.specs.Keeping.{keepsPoint}
 use Rattle.publicpart.specs.Public.{Public, carriedOf, contents, keptRecord, restrict, publicOf}
@@ -49,8 +50,7 @@ module _ (s : Bytes) where
 
   -- and read as scales and offsets
   pub carried-scaled : scalingIn (carriedOf s .scaling) ≡ scalingOf s
-  unfolding carriedOf scalingOf
-  carried-scaled = refl
+  carried-scaled = rw (carried-scaling, scaling-in)
 
 -- ---- the contents of a file
 

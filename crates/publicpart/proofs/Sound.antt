@@ -12,13 +12,15 @@ use Rattle.fields.proofs.ByteLaws.{num-part-lt, length-part, length-pieces, pie
 use Rattle.fields.specs.Text.{Held}
 use Rattle.fields.proofs.TextLaws.{held}
 use Rattle.formats.specs.Formats.{formatSize}
-use Rattle.records.specs.Records.{recordLen}
+use Rattle.records.specs.Records.{walkEnd, recordLen}
 use Rattle.records.specs.ReadBack.{SoundRecord}
 use Rattle.records.proofs.RecordLaws.{walk-sound, walk-total, length-walk}
-use Rattle.scaling.specs.Scaling.{scalingIn, scalingOf, goodScaling}
-use Rattle.headerfields.specs.HeaderFields.{headerSize, pointOffset, recordCount, format, recordLength, pointCount}
-use Rattle.lasfile.specs.FileChecks.{recordsEnd}
+use Rattle.scaling.specs.Scaling.{scalingIn, goodScaling}
+use Rattle.scaling.proofs.ScalingLaws.{scaling-in}
+use Rattle.headerfields.specs.HeaderFields.{headerSize, pointOffset, recordCount, recordLength, pointCount}
+use Rattle.headerfields.proofs.FieldLaws.{offset-low, records-low, length-low, count-low}
 use Rattle.lasfile.specs.Passed.{Passed}
+use Rattle.lasfile.proofs.Passed.{records-end}
 use Rattle.keeping.specs.Keeping.{keepsPoint}
 use Rattle.publicpart.specs.Public.{Carried, Public, carriedOf, contents, restrict, publicOf, keptRecord}
 use Rattle.publicpart.specs.Render.{newOffset}
@@ -46,7 +48,7 @@ pub record Sound (p : Public) : Type 0 where
 
 module _ (s : Bytes) (bytes : AllBytes s) (p : Passed s) where
   sound-carried : SoundCarried (carriedOf s)
-  unfolding carriedOf format recordLength scalingOf
+  unfolding carriedOf
   sound-carried =
       record {
         ids = length-part 4 20 s (omega arith);
@@ -55,25 +57,25 @@ module _ (s : Bytes) (bytes : AllBytes s) (p : Passed s) where
         day = num-part-lt 90 2 s bytes;
         year = num-part-lt 92 2 s bytes;
         format = p .formatted;
-        recordLength = num-part-lt 105 2 s bytes;
+        recordLength = length-low s bytes;
         recordLow = p .recordLow;
         scaling = length-part 131 48 s (omega arith);
-        scaled = p .scaled;
+        scaled = rw (← scaling-in s) (p .scaled);
       }
 
-  inside : recordsEnd s ≤ length s
-  inside = omega arith
+  inside : walkEnd 2 (recordCount s) (headerSize s) s ≤ length s
+  inside = omega (arith, records-end s)
 
   pub sound : Sound (contents s)
-  unfolding contents carriedOf newOffset headerSize pointOffset recordCount recordLength pointCount recordsEnd
+  unfolding contents carriedOf newOffset
   sound =
       record {
         carried = sound-carried;
         records = walk-sound 2 s bytes (recordCount s) (headerSize s) inside;
-        recordCount = omega (arith, length-walk 2 s bytes (recordCount s) (headerSize s), num-part-lt 100 4 s bytes);
-        offset = omega (arith, walk-total 2 s bytes (recordCount s) (headerSize s) inside, num-part-lt 96 4 s bytes);
+        recordCount = omega (arith, length-walk 2 s bytes (recordCount s) (headerSize s), records-low s bytes);
+        offset = omega (arith, walk-total 2 s bytes (recordCount s) (headerSize s) inside, records-end s, offset-low s bytes);
         points = pieces-width (pointCount s) (recordLength s) (drop (pointOffset s) s) (simp length-drop (omega arith));
-        pointCount = omega (arith, length-pieces (pointCount s) (recordLength s) (drop (pointOffset s) s), num-part-lt 107 4 s bytes);
+        pointCount = omega (arith, length-pieces (pointCount s) (recordLength s) (drop (pointOffset s) s), count-low s bytes);
       }
 
 pub sound-restrict : (sheet : Bytes) (p : Public) → Sound p → Sound (restrict sheet p)

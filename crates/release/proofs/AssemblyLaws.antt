@@ -16,7 +16,7 @@ use Rattle.formats.proofs.FormatLaws.{shared-first}
 use Rattle.scaling.specs.Scaling.{scalingIn, scalingOf}
 use Rattle.records.specs.Records.{recordLen, recordsBytes}
 use Rattle.records.proofs.RecordLaws.{length-recordsBytes}
-use Rattle.headerfields.proofs.BoundLaws.{count-low}
+use Rattle.headerfields.proofs.FieldLaws.{count-low}
 use Rattle.headerfields.specs.HeaderFields.{headerBlock, pointOffset, pointCount, recordLength, format}
 use Rattle.lasfile.specs.FileChecks.{fileVerdict}
 use Rattle.lasfile.proofs.Passed.{passed}

@@ -1,6 +1,6 @@
 -- Laws of the doubles of a header.
 -- Assumes nothing.
-use mathlib.Core.Path.{_≡_, ap}
+use mathlib.Core.Path.{_≡_, refl, ap}
 use Prim.Native.Nat.{ℕ, _+_, _≤_}
 use lib.Dec.{lit≤}
 use lib.Ieee.{binary64, ofBits}
@@ -12,6 +12,11 @@ use Rattle.scaling.specs.Scaling.{doubleAt, scalingIn, scalingOf}
 pub double-in : (s : Bytes) (at w i : ℕ) → i + 8 ≤ w → doubleAt (part at w s) i ≡ doubleAt s (at + i)
 unfolding doubleAt
 double-in s at w i h = ap (λ (b : Bytes). ofBits binary64 (num b)) (part-part at w i 8 s h)
+
+-- the part of a file that holds them
+pub scaling-in : (s : Bytes) → scalingOf s ≡ scalingIn (part 131 48 s)
+unfolding scalingOf
+scaling-in s = refl
 
 -- each double of a header, at its place in the file
 pub scaling-at : (s : Bytes) →

@@ -18,14 +18,14 @@ use Rattle.records.specs.Records.{sizeOf, places, walkEnd}
 use Rattle.records.proofs.FieldLaws.{user-at, id-at, description-at, payload-at}
 use Rattle.records.proofs.RecordLaws.{walk-grows, walkEnd-step, places-none, places-step}
 use Rattle.headerfields.specs.HeaderFields.{headerSize, pointOffset, recordCount}
-use Rattle.lasfile.specs.FileChecks.{recordsEnd, fileVerdict}
+use Rattle.lasfile.specs.FileChecks.{fileVerdict}
 use Rattle.cursor.specs.Steps.{recordPlaces, nextCursor, stepOf, collect, visited}
 use Rattle.stepping.specs.Visits.{cursor, Means, Visits}
 use Rattle.cursor.specs.declared.RecordPlaces.{RecordPlaces}
 use Rattle.cursor.specs.declared.Step.{Step}
 use Rattle.cursor.specs.declared.Step.the-variants.{Record, Refused}
 use Rattle.lasfile.specs.Passed.{Passed}
-use Rattle.lasfile.proofs.Passed.{passed}
+use Rattle.lasfile.proofs.Passed.{records-end, passed}
 use Rattle.cursor.proofs.StepLaws.{test, refused-18, answered}
 
 module _ (s : Bytes) (passes : fileVerdict s ≡ Passes) where
@@ -70,10 +70,9 @@ module _ (s : Bytes) (passes : fileVerdict s ≡ Passes) where
       ∙ ap (λ (r : List RecordPlaces). recordPlaces s position ∷ r) (visits-left k m (index + 1) (position + sizeOf 2 (drop position s)) (left-next k index position l)))
 
   visits : (m : ℕ) → visited (recordCount s + suc m) s (cursor 0 (headerSize s)) ≡ map (recordPlaces s) (places 2 (recordCount s) (headerSize s) s)
-  unfolding recordsEnd
   visits m =
       let p : Passed s = passed s passes in
-      visits-left (recordCount s) m 0 (headerSize s) (record { counted = omega arith; behind = omega arith; before = p .walked })
+      visits-left (recordCount s) m 0 (headerSize s) (record { counted = omega arith; behind = omega arith; before = rw (records-end s) at (p .walked) })
 
 -- ---- what a record's places mean
 
