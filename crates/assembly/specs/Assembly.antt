@@ -14,7 +14,7 @@ use Rattle.publicpart.specs.Public.{publicOf}
 use Rattle.tally.specs.declared.Tally.{Tally}
 use Rattle.tally.specs.Tally.{tallyOf}
 use Rattle.bounds.specs.Bounds.{tallyBounds}
-use Rattle.heads.specs.declared.Totals.{Totals}
+use Rattle.heads.specs.declared.HeadTotals.{HeadTotals}
 use Rattle.heads.specs.Heads.{headBytes}
 use Rattle.keptpoints.specs.KeptPoints.{keptPoints}
 
@@ -27,7 +27,7 @@ unfoldable pub withPoints : List Bool → Bytes → ℕ → Bytes → Bytes
 withPoints table s start out = take start out ++ take (length out - start) (pointsBytes table s ++ zeros (length out - start))
 
 -- what the header says of a tally, of a number of records and of the new point offset
-unfoldable pub totalsOf : Bytes → Tally → ℕ → ℕ → Totals
+unfoldable pub totalsOf : Bytes → Tally → ℕ → ℕ → HeadTotals
 totalsOf s t records start =
     record {
       offset = start;

@@ -5,7 +5,7 @@ ghost use Rattle.headerfields.specs.HeaderFields.{format, recordLength};
 ghost use Rattle.pointruns.specs.PointRuns.{pointsOf};
 ghost use Rattle.tally.specs.Tally.{tallyOf};
 ghost use Rattle.assembly.specs.Assembly.{withPoints, totalsOf, withHead, written};
-use heads::Totals;
+use heads::HeadTotals;
 
 // Lends the output from the new point offset `start` on to the point copier, which zeros the rest. An output that does not reach it is left as it is.
 fn put_points(file: &[u8], table: &[bool; 256], start: usize, out: &mut [u8])
@@ -29,7 +29,7 @@ fn put_points(file: &[u8], table: &[bool; 256], start: usize, out: &mut [u8])
 }
 
 // What the header says of `records` records and of the `points` points that stand in the output from `start` on.
-fn totals_of(file: &[u8], points: usize, records: usize, start: usize, out: &[u8]) -> Totals
+fn totals_of(file: &[u8], points: usize, records: usize, start: usize, out: &[u8]) -> HeadTotals
     ensures { λ r. ⌜ r ≡ totalsOf (now (file .entry)) (tallyOf (format (now (file .entry))) (pointsOf points (recordLength (now (file .entry))) (drop start (now (out .entry))))) records start ⌝ }
 {
     let format = headerfields::format(file);
@@ -38,7 +38,7 @@ fn totals_of(file: &[u8], points: usize, records: usize, start: usize, out: &[u8
     let tally = tally::tally_points(run, format, record_length, points);
     let bins = tally.bins;
     let bounds = bounds::bounds_of(tally, scaling::Scaling::read(file));
-    Totals {
+    HeadTotals {
         offset: start as u64,
         records: records as u64,
         points: tally.count,

@@ -17,18 +17,18 @@ use Rattle.publicpart.specs.Head.{headWidths, headFields}
 use Rattle.publicpart.proofs.PublicLaws.{carried-ids, carried-system, carried-software, carried-scaling}
 use Rattle.publicpart.proofs.HeadLaws.{Fitting, head-fits}
 use Rattle.tally.specs.Tally.{binNumbers}
-use Rattle.heads.specs.declared.Totals.{Totals}
+use Rattle.heads.specs.declared.HeadTotals.{HeadTotals}
 use Rattle.heads.specs.Heads.{headWith, bytesIf, headBytes}
 use Rattle.heads.specs.Stores.{fieldsStored}
 use Rattle.heads.proofs.FieldStores.{stores-join}
 
-pub no-head : (s : Bytes) (t : Totals) → length s < headerBlock → headBytes s t ≡ []
+pub no-head : (s : Bytes) (t : HeadTotals) → length s < headerBlock → headBytes s t ≡ []
 unfolding headBytes bytesIf
 no-head s t h = rw (lt-leb headerBlock (length s) h)
 
 -- ---- a source that is long enough
 
-module _ (s : Bytes) (t : Totals) (long : headerBlock ≤ length s) where
+module _ (s : Bytes) (t : HeadTotals) (long : headerBlock ≤ length s) where
   pub whole-head : headBytes s t ≡ join (headFields (headWith s t))
   unfolding headBytes bytesIf
   whole-head = rw (le-leb headerBlock (length s) long)

@@ -10,10 +10,10 @@ use Rattle.publicpart.specs.Bounds.{boundNumbers}
 use Rattle.publicpart.specs.Public.{carriedOf}
 use Rattle.publicpart.specs.Head.{Head, headFields}
 use Rattle.tally.specs.Tally.{binNumbers}
-use Rattle.heads.specs.declared.Totals.{Totals}
+use Rattle.heads.specs.declared.HeadTotals.{HeadTotals}
 
 -- the carried fields of a file, and totals
-unfoldable pub headWith : Bytes → Totals → Head
+unfoldable pub headWith : Bytes → HeadTotals → Head
 headWith s t =
     record {
       carried = carriedOf s;
@@ -29,5 +29,5 @@ bytesIf true b = b
 bytesIf false b = []
 
 -- the header's bytes; none where the file is shorter than a header
-unfoldable pub headBytes : Bytes → Totals → Bytes
+unfoldable pub headBytes : Bytes → HeadTotals → Bytes
 headBytes s t = bytesIf (leb headerBlock (length s)) (join (headFields (headWith s t)))

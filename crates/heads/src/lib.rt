@@ -1,7 +1,7 @@
 // A header, written from what it says: the carried fields of a file, and totals.
 ghost use mathlib.Core.Path.{_≡_};
 ghost use lib.Seq.{sets};
-ghost use Rattle.heads.specs.declared.Totals.{Totals};
+ghost use Rattle.heads.specs.declared.HeadTotals.{HeadTotals};
 ghost use Rattle.heads.specs.Heads.{headWith, headBytes};
 ghost use Rattle.heads.specs.Stores.{fieldsStored};
 use fields::numbers::number_at;
@@ -12,7 +12,7 @@ use scaling::Bounds;
 use tally::Bins;
 
 // What a header says besides the carried fields.
-pub struct Totals {
+pub struct HeadTotals {
     pub offset: u64,
     pub records: u64,
     pub points: u64,
@@ -22,7 +22,7 @@ pub struct Totals {
 
 // Places 0 to 89: signature to generating software, which are the same for all totals.
 fn put_front(source: &[u8], out: &mut [u8])
-    ensures { λ _. ⌜ ((t : Totals) → now (out .exit) ≡ fieldsStored 0 5 (headWith (now (source .entry)) t) (now (out .entry))) ⌝ }
+    ensures { λ _. ⌜ ((t : HeadTotals) → now (out .exit) ≡ fieldsStored 0 5 (headWith (now (source .entry)) t) (now (out .entry))) ⌝ }
 {
     copying::copy(b"LASF", out, 0);
     copying::copy(runs::part_at(source, 4, 20), out, 4);
@@ -32,7 +32,7 @@ fn put_front(source: &[u8], out: &mut [u8])
 }
 
 // Places 90 to 130: creation day to points by return.
-fn put_middle(source: &[u8], totals: Totals, out: &mut [u8])
+fn put_middle(source: &[u8], totals: HeadTotals, out: &mut [u8])
     ensures { λ _. ⌜ now (out .exit) ≡ fieldsStored 5 9 (headWith (now (source .entry)) totals) (now (out .entry)) ⌝ }
 {
     let day = number_at(source, 90, 2);
@@ -51,7 +51,7 @@ fn put_middle(source: &[u8], totals: Totals, out: &mut [u8])
 }
 
 // Writes a header at the front of `out`: the carried fields of the file `source`, and these totals. A source shorter than a header gives none.
-pub fn put_head(source: &[u8], totals: Totals, out: &mut [u8])
+pub fn put_head(source: &[u8], totals: HeadTotals, out: &mut [u8])
     ensures { λ _. ⌜ now (out .exit) ≡ sets (now (out .entry)) 0 (headBytes (now (source .entry)) totals) ⌝ }
 {
     if source.len() < HEADER_BLOCK {

@@ -35,7 +35,7 @@ use Rattle.publicpart.proofs.HeadLaws.{length-head}
 use Rattle.publicpart.proofs.RenderLaws.{new-offset, total-length, render-parts, head-of}
 use Rattle.publicpart.proofs.LengthLaws.{no-longer}
 use Rattle.publicpart.proofs.Back.{fitting, length-render}
-use Rattle.heads.specs.declared.Totals.{Totals}
+use Rattle.heads.specs.declared.HeadTotals.{HeadTotals}
 use Rattle.heads.specs.Heads.{headWith, headBytes}
 use Rattle.heads.proofs.HeadLaws.{whole-head}
 use Rattle.keptrecords.specs.declared.KeptRecords.{KeptRecords}
@@ -114,7 +114,7 @@ module _ (sheet s : Bytes) (bytes : AllBytes s) (passes : fileVerdict s ≡ Pass
 
   -- ---- the header is that of the public part's points
 
-  abbrev own : Totals
+  abbrev own : HeadTotals
   own = totalsOf s (tallyOf (format s) (part-of .points)) (length (part-of .records)) (newOffset part-of)
 
   head-is : headWith s own ≡ headOf part-of

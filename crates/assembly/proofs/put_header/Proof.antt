@@ -6,7 +6,7 @@ use lib.Seq.{sets}
 use Rattle.headerfields.specs.HeaderFields.{format, recordLength}
 use Rattle.pointruns.specs.PointRuns.{pointsOf}
 use Rattle.tally.specs.Tally.{tallyOf}
-use Rattle.heads.specs.declared.Totals.{Totals}
+use Rattle.heads.specs.declared.HeadTotals.{HeadTotals}
 use Rattle.heads.specs.Heads.{headBytes}
 use Rattle.assembly.specs.Assembly.{totalsOf, withHead}
 use borrow.Author.Needs.{needs}
@@ -20,7 +20,7 @@ returns : tie.Need-returns
 unfolding withHead
 returns c =
     let a = c .before .before .before .before .before .before .before .before .args in
-    let totals : Totals = c .before .before .before .before .totals-of .result in
+    let totals : HeadTotals = c .before .before .before .before .totals-of .result in
     let said : totals ≡ totalsOf (now (a .file)) (tallyOf (format (now (a .file))) (pointsOf (a .points) (recordLength (now (a .file))) (drop (a .start) (now (a .out))))) (a .records) (a .start) = c .before .before .before .before .totals-of .ensures in
     let headed : c .before .before .put-head .last .1 .1 .0 ≡ sets (now (a .out)) 0 (headBytes (now (a .file)) totals) = c .before .before .put-head .ensures in
     headed ∙ rw said
