@@ -39,7 +39,7 @@ fn places_at(file: &[u8], at: usize) -> RecordPlaces
         description_place: at + 22,
         description_length: texts::cut_length(runs::part_at(file, at + 22, 32)),
         payload_place: at + FRONT,
-        payload_length: number_at(file, at + 20, 2) as usize,
+        payload_length: records::payload_length_at(file, at),
     }
 }
 

@@ -55,7 +55,7 @@ fn payload_at(file: &[u8], at: usize) -> &[u8]
     requires { ⌜ at + 54 < 2 ^ 64 ⌝ }
     ensures { λ r. ⌜ now r ≡ payloadAt (now (file .entry)) at ⌝ }
 {
-    runs::part_at(file, at + FRONT, number_at(file, at + 20, 2) as usize)
+    runs::part_at(file, at + FRONT, records::payload_length_at(file, at))
 }
 
 // Number 41.

@@ -31,7 +31,7 @@ fn keeps(sheet: &[u8], vlr: &[u8]) -> bool
 fn payload_of(vlr: &[u8]) -> &[u8]
     ensures { λ r. ⌜ now r ≡ recordOf 2 (now (vlr .entry)) .payload ⌝ }
 {
-    runs::part_at(vlr, FRONT, number_at(vlr, 20, 2) as usize)
+    runs::part_at(vlr, FRONT, records::payload_length_at(vlr, 0))
 }
 
 // The bytes that it takes in a released file.

@@ -13,15 +13,10 @@ use Rattle.fields.specs.Bytes.{Bytes, AllBytes, part, num, bytesOf, join, Fit, 
 use Rattle.fields.specs.Text.{cut, padded}
 use Rattle.records.specs.Records.{Record, recordWidths, frontSize, payloadLength, recordOf, sizeOf, places, walk, walkEnd, recordFields, recordBytes, recordLen, recordsBytes}
 use Rattle.records.specs.ReadBack.{SoundRecord, WalkBack, WalkEndBack}
-use Rattle.fields.proofs.ByteLaws.{num-bytesOf, length-bytesOf, num-part-lt, length-part, part-drop, field-back, length-join, drop-bytes}
+use Rattle.fields.proofs.ByteLaws.{num-bytesOf, length-bytesOf, num-part-lt, length-part, field-back, length-join, drop-bytes}
 use Rattle.fields.proofs.TextLaws.{held, length-padded}
 
 -- ---- reading a file
-
--- a record's size, by the number at its place
-pub size-is : (s : Bytes) (at n : ℕ) → n ≡ num (part (at + 20) 2 s) → 54 + n ≡ sizeOf 2 (drop at s)
-unfolding sizeOf payloadLength
-size-is s at n e = ap (λ (k : ℕ). 54 + k) (rw part-drop e)
 
 -- a record is as long as its header, at least
 pub front-in-size : (lw : ℕ) (s : Bytes) → frontSize lw ≤ sizeOf lw s

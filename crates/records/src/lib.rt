@@ -3,19 +3,26 @@ ghost use mathlib.Core.Path.{_≡_};
 ghost use Prim.Native.Nat.{_<_, _^_};
 ghost use lib.Dec.{leb};
 ghost use lib.ListN.{drop};
-ghost use Rattle.records.specs.Records.{sizeOf, walkEnd};
+ghost use Rattle.records.specs.Records.{payloadLength, sizeOf, walkEnd};
 
 // The bytes of a record's header.
 pub const FRONT: usize = 54;
 
-// The size of the record at a place: its header and its payload. Bytes past the end count as 0.
+// The payload length of the record at a place. Bytes past the end count as 0.
+pub fn payload_length_at(file: &[u8], at: usize) -> usize
+    ensures { λ r. ⌜ (r ≡ payloadLength 2 (drop at (now (file .entry)))) × (r < 2 ^ 16) ⌝ }
+{
+    if file.len() <= at {
+        return 0;
+    }
+    fields::numbers::number_at(file, at + 20, 2) as usize
+}
+
+// The size of the record at a place: its header and its payload.
 pub fn size_at(file: &[u8], at: usize) -> usize
     ensures { λ r. ⌜ (r ≡ sizeOf 2 (drop at (now (file .entry)))) × (r < 2 ^ 17) ⌝ }
 {
-    if file.len() <= at {
-        return FRONT;
-    }
-    FRONT + fields::numbers::number_at(file, at + 20, 2) as usize
+    FRONT + payload_length_at(file, at)
 }
 
 // Whether `count` records from a place on end by `end`. It stops at the first that does not, so that a damaged count costs no more

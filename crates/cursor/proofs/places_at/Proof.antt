@@ -1,11 +1,9 @@
 -- `cursor::places_at` meets its contract. Assumes nothing.
-use mathlib.Core.Path.{_≡_, sym, ap, _∙_}
+use mathlib.Core.Path.{_≡_, ap, _∙_}
 use Prim.Native.Nat.{_+_}
-use lib.ListN.{length, drop}
+use lib.ListN.{length}
 use Rattle.fields.specs.Bytes.{Bytes, part}
 use Rattle.fields.specs.Text.{cut}
-use Rattle.records.specs.Records.{payloadLength}
-use Rattle.records.proofs.FieldLaws.{length-at}
 use Rattle.cursor.specs.Steps.{recordPlaces}
 use borrow.Author.Needs.{needs}
 use Rattle.cursor.proofs.places_at.Statement.{statement}
@@ -19,7 +17,6 @@ returns c =
     c .before .before .before .before .cut-length .ensures ∙ ap (λ (t : Bytes). length (cut t)) (c .before .before .before .before .before .part-at .ensures) in
     let description : c .before .cut-length2 .result ≡ length (cut (part (a .at + 22) 32 (a .file .now))) =
     c .before .cut-length2 .ensures ∙ ap (λ (t : Bytes). length (cut t)) (c .before .before .part-at2 .ensures) in
-    let payload : c .number-at2 .result ≡ payloadLength 2 (drop (a .at) (a .file .now)) = c .number-at2 .ensures .0 ∙ sym (length-at 2 (a .file .now) (a .at)) in
     λ i. record {
       «user_place» = a .at + 2;
       «user_length» = user i;
@@ -27,7 +24,7 @@ returns c =
       «description_place» = a .at + 22;
       «description_length» = description i;
       «payload_place» = a .at + 54;
-      «payload_length» = payload i;
+      «payload_length» = c .payload-length-at .ensures .0 i;
     }
 
 pub places-at-spec : {M : Type 1} → statement M
@@ -44,7 +41,6 @@ places-at-spec =
     (λ c. search needs)
     (λ c κs. tt)
     (λ c κs. tt)
-    (λ c. search needs)
     (λ c. search needs)
     (λ c κs. tt)
     returns)

@@ -1,10 +1,8 @@
 -- `geokeys::payload_at` meets its contract. Assumes nothing.
-use mathlib.Core.Path.{_≡_, sym, ap, _∙_}
+use mathlib.Core.Path.{sym, ap, _∙_}
 use Prim.Native.Nat.{ℕ, _+_}
-use lib.ListN.{drop}
 use Rattle.fields.specs.Bytes.{part}
-use Rattle.records.specs.Records.{payloadLength}
-use Rattle.records.proofs.FieldLaws.{length-at, payload-at}
+use Rattle.records.proofs.FieldLaws.{payload-at}
 use Rattle.geokeys.specs.GeoKeys.{payloadAt}
 use borrow.Author.Needs.{needs}
 use Rattle.geokeys.proofs.payload_at.Statement.{statement}
@@ -15,8 +13,7 @@ unfolding payloadAt
 returns c =
     let a = c .before .before .before .args in
     let s = a .file .now in
-    let n : c .before .number-at .result ≡ payloadLength 2 (drop (a .at) s) = c .before .number-at .ensures .0 ∙ sym (length-at 2 s (a .at)) in
-    c .part-at .ensures ∙ ap (λ (k : ℕ). part (a .at + 54) k s) n ∙ sym (payload-at 2 s (a .at))
+    c .part-at .ensures ∙ ap (λ (k : ℕ). part (a .at + 54) k s) (c .before .payload-length-at .ensures .0) ∙ sym (payload-at 2 s (a .at))
 
 pub payload-at-spec : {M : Type 1} → statement M
-payload-at-spec = tie.close (tie.spec (λ c. search needs) (λ c. search needs) (λ c κs. tt) (λ c κs. tt) returns)
+payload-at-spec = tie.close (tie.spec (λ c. search needs) (λ c κs. tt) (λ c κs. tt) returns)
