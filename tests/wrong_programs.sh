@@ -1,8 +1,10 @@
 #!/usr/bin/env bash
 # Reads what the prover said of each must-fail edit, after `rt ci` or `rt must-fail`: wrong_programs.sh TARGET
-# rt asks that an edit is refused. An edit may hold several wrong programs, of functions that do not call one another, since each try
-# checks the whole crate. So each wrong program is named, '# NAME: what is wrong', and this asks that it is refused by its own proof, at a
-# fact. NAME is a function's path in its crate, or, for a wrong statement, FILE.LAW: the law of proofs/FILE.antt that no longer holds.
+# rt asks that an edit is refused. An edit holds several wrong programs, at most one of each function, since each try checks the whole
+# crate. So each wrong program is named, '# NAME: what is wrong', and this asks that it is refused by its own proof, at a fact: a proof
+# rests on the contracts of the functions called, which no edit touches, and never on their code, so that a caller and its callee are
+# refused each by itself. NAME is a function's path in its crate, or, for a wrong statement, FILE.LAW: the law of proofs/FILE.antt that
+# no longer holds, with '::' for '/' in FILE.
 # Its last line is 'N passed, M failed', a wrong program each.
 set -uo pipefail
 cd "$(dirname "$0")/.." || exit 1
@@ -13,12 +15,16 @@ failed=0
 # Words of an error that says nothing of a fact: the proof does not fit the code, or the prover gave up.
 not_a_fact='Need-|not in scope|step limit|could not tell|was not admitted'
 
-# first_error CRATE NAME LOG: the first error in NAME's proof, where NAME itself is refused and not only something that it rests on.
+# first_error CRATE NAME LOG: the first error in NAME's proof. Where only something that it calls is refused, that error is that a name `was not admitted`, which is no fact.
 first_error() {
+    local file
     case $2 in
-    *.*) grep -m 1 -o "proofs/${2%.*}\.antt:[0-9]*:[0-9]*: error: \`${2##*.}\`: .*" "$3" ;;
+    *.*)
+        file=${2%.*}
+        grep -m 1 -o "proofs/${file//:://}\.antt:[0-9]*:[0-9]*: error: \`${2##*.}\`: .*" "$3"
+        ;;
     *)
-        grep -qx "fn $1::$2: not proved" "$3" || return
+        grep -qxE "fn $1::$2: not proved(; it calls .*)?" "$3" || return
         grep -m 1 -o "proofs/${2//:://}/Proof\.antt:[0-9]*:[0-9]*: error: .*" "$3"
         ;;
     esac

@@ -7,27 +7,27 @@ use Rattle.fields.specs.Bytes.{Bytes}
 use Rattle.fields.specs.Text.{cut}
 use Rattle.fields.specs.Checks.{numberOf}
 use Rattle.points.specs.Points.{decoded}
-use Rattle.encoding.specs.Encoding.{encoded}
-use Rattle.doubles.specs.Coordinate.{coordinateBits}
+use Rattle.points.specs.Encoding.{encoded}
+use Rattle.scaling.specs.Coordinate.{coordinateBits}
 use Rattle.lasfile.specs.FileChecks.{fileVerdict}
-use Rattle.header.specs.Header.{headerRead}
-use Rattle.cursor.specs.Steps.{stepOf}
-use Rattle.onepoint.specs.OnePoint.{pointAtOf}
+use Rattle.reader.specs.Header.{headerRead}
+use Rattle.reader.specs.Steps.{stepOf}
+use Rattle.reader.specs.OnePoint.{pointAtOf}
 use Rattle.sheet.specs.Sheet.{sheetVerdict}
-use Rattle.keeping.specs.Keeping.{keepsClass, keepsRecord}
-use Rattle.kept.specs.Answers.{keptUnder}
+use Rattle.sheet.specs.Keeping.{keepsClass, keepsRecord}
+use Rattle.sheet.specs.KeptAnswers.{keptUnder}
 use Rattle.geokeys.specs.GeoKeys.{lookup}
 use Rattle.publicpart.specs.Release.{release}
-use Rattle.answers.specs.Answers.{releasedNumbers, keptNumbers}
-use Rattle.answers.specs.declared.«las_released».{«las_released»}
-use Rattle.answers.specs.declared.«las_kept».{«las_kept»}
-use Rattle.recordanswers.specs.RecordAnswers.{recordNumbers, geokeyNumbers}
-use Rattle.recordanswers.specs.declared.«las_record».{«las_record»}
-use Rattle.recordanswers.specs.declared.«las_geokey».{«las_geokey»}
-use Rattle.pointanswers.specs.PointAnswers.{pointNumbers, decodedNumbers, givenPoint}
-use Rattle.pointanswers.specs.declared.«las_point».{«las_point»}
-use Rattle.headeranswers.specs.HeaderAnswers.{headerNumbers}
-use Rattle.headeranswers.specs.declared.«las_header».{«las_header»}
+use Rattle.capi.specs.Answers.{releasedNumbers, keptNumbers}
+use Rattle.capi.specs.declared.answers.«las_released».{«las_released»}
+use Rattle.capi.specs.declared.answers.«las_kept».{«las_kept»}
+use Rattle.capi.specs.RecordAnswers.{recordNumbers, geokeyNumbers}
+use Rattle.capi.specs.declared.vlr.«las_record».{«las_record»}
+use Rattle.capi.specs.declared.vlr.«las_geokey».{«las_geokey»}
+use Rattle.capi.specs.PointAnswers.{pointNumbers, decodedNumbers, givenPoint}
+use Rattle.capi.specs.declared.point.«las_point».{«las_point»}
+use Rattle.capi.specs.HeaderAnswers.{headerNumbers}
+use Rattle.capi.specs.declared.header.«las_header».{«las_header»}
 
 unfoldable pub lasLevel : ℕ
 lasLevel = 0

@@ -10,8 +10,8 @@ use Rattle.fields.specs.Bytes.{Bytes, part, num, same, pieces}
 use Rattle.fields.specs.Checks.{Check, firstFailing, _below_, _differs-from_, not-so, _or_}
 use Rattle.fields.specs.declared.Verdict.{Verdict}
 use Rattle.fields.specs.declared.Verdict.the-variants.{Passes, Fails}
-use Rattle.records.specs.Records.{recordAt, places, frontSize}
-use Rattle.headerfields.specs.HeaderFields.{headerSize, recordCount}
+use Rattle.lasfile.specs.Records.{recordAt, places, frontSize}
+use Rattle.lasfile.specs.HeaderFields.{headerSize, recordCount}
 use Rattle.lasfile.specs.FileChecks.{fileVerdict}
 use Rattle.geokeys.specs.declared.GeoKey.{GeoKey}
 use Rattle.geokeys.specs.declared.GeoKey.the-variants.{Value, Double, Text, Refused}

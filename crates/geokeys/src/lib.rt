@@ -10,7 +10,11 @@ ghost use Rattle.geokeys.specs.GeoKeys.{isProjection, projectionPlace, p
 ghost use Rattle.geokeys.specs.Places.{placeIn, entryIn, Low};
 use fields::Verdict;
 use fields::numbers::number_at;
-use records::FRONT;
+use fields::slices;
+use fields::text;
+use lasfile::header;
+use lasfile::vlr;
+use lasfile::vlr::FRONT;
 
 // A key's value: a number, a double's 64 bits, a text's place in the file and its length; or a refusal's number.
 pub enum GeoKey {
@@ -30,7 +34,7 @@ fn is_projection(file: &[u8], id: u64, at: usize) -> bool
     requires { ⌜ at + 54 < 2 ^ 64 ⌝ }
     ensures { λ r. ⌜ r ≡ isProjection (now (file .entry)) id at ⌝ }
 {
-    let named = texts::same_cut(runs::part_at(file, at + 2, 16), b"LASF_Projection");
+    let named = text::same_cut(slices::part_at(file, at + 2, 16), b"LASF_Projection");
     named & (number_at(file, at + 18, 2) == id)
 }
 
@@ -39,13 +43,13 @@ fn find_projection(file: &[u8], id: u64) -> Found
     requires { ⌜ fileVerdict (now file) ≡ Passes ⌝ }
     ensures { λ r. ⌜ (placeIn r ≡ projectionPlace (now (file .entry)) id) × Low r ⌝ }
 {
-    let mut at = headerfields::header_size(file);
-    let mut left = headerfields::record_count(file);
+    let mut at = header::header_size(file);
+    let mut left = header::record_count(file);
     while 0 < left {
         if is_projection(file, id, at) {
             return Found::At(at);
         }
-        at += records::size_at(file, at);
+        at += vlr::size_at(file, at);
         left -= 1;
     }
     Found::Nothing
@@ -55,7 +59,7 @@ fn payload_at(file: &[u8], at: usize) -> &[u8]
     requires { ⌜ at + 54 < 2 ^ 64 ⌝ }
     ensures { λ r. ⌜ now r ≡ payloadAt (now (file .entry)) at ⌝ }
 {
-    runs::part_at(file, at + FRONT, records::payload_length_at(file, at))
+    slices::part_at(file, at + FRONT, vlr::payload_length_at(file, at))
 }
 
 // Number 41.
@@ -65,7 +69,10 @@ fn check_directory(directory: &[u8]) -> Verdict
     if directory.len() < 8 {
         return Verdict::Fails(41);
     }
-    if !runs::same_bytes(runs::part_at(directory, 0, 6), b"\x01\x00\x01\x00\x00\x00") {
+    if !slices::same_bytes(
+        slices::part_at(directory, 0, 6),
+        b"\x01\x00\x01\x00\x00\x00",
+    ) {
         return Verdict::Fails(41);
     }
     if (directory.len() as u64) < 8 + 8 * number_at(directory, 6, 2) {
@@ -143,7 +150,7 @@ fn from_directory(file: &[u8], directory: &[u8], key: u16) -> GeoKey
     }
     let found = find_entry(directory, key);
     match found {
-        Found::At(at) => from_entry(file, runs::part_at(directory, at, 8)),
+        Found::At(at) => from_entry(file, slices::part_at(directory, at, 8)),
         Found::Nothing => GeoKey::Refused(42),
     }
 }

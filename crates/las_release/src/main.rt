@@ -1,9 +1,11 @@
 // Releases what sheet.bin keeps of in.las to out.las, in the folder where it runs, and prints one line: what was released, or the number of the refusal.
+pub mod inputs;
 mod output;
 
 ghost use mathlib.Core.Path.{_≡_};
 ghost use lib.ListN.{length};
 use fields::Verdict;
+use fields::slices;
 use publicpart::Answer;
 
 // Reads until the end of the file or until buf is full, and answers how many bytes it read, or -1 where a read fails. A short read is not the end.
@@ -39,7 +41,7 @@ fn read_file(path: &[u8], buf: &mut [u8; 32769]) -> isize {
 // The bytes that were read.
 fn bytes_read(buf: &[u8; 32769], got: isize) -> &[u8] {
     let n = io::count(got, buf);
-    runs::part_at(buf, 0, n)
+    slices::part_at(buf, 0, n)
 }
 
 // Releases a file under a sheet. The output is as long as a file may be, so that it is never too short.
@@ -48,7 +50,7 @@ fn run(file: &[u8], sheet: &[u8]) {
     let answer = release::release(file, sheet, &mut out);
     match answer {
         Answer::Released(length, points, records) => {
-            if output::save(runs::part_at(&out, 0, length)) {
+            if output::save(slices::part_at(&out, 0, length)) {
                 output::print_released(length as u64, points as u64, records as u64);
             } else {
                 output::print_refused(51);

@@ -1,4 +1,6 @@
 // What the program writes: out.las, and its line.
+use fields::copying;
+use fields::slices;
 use libc::STDOUT_FILENO;
 
 // Writes all bytes, flushes them to the disk and closes.
@@ -41,7 +43,7 @@ fn put_decimal(line: &mut [u8; 96], at: usize, n: u64) -> usize {
 
 // Prints the line by one call, so that it comes out whole.
 fn print(line: &[u8; 96], end: usize) {
-    io::write_all(STDOUT_FILENO, runs::part_at(line, 0, end));
+    io::write_all(STDOUT_FILENO, slices::part_at(line, 0, end));
 }
 
 pub(crate) fn print_released(length: u64, points: u64, records: u64) {

@@ -7,8 +7,8 @@ use native.Mathlib.Omega.{arith}
 use Rattle.fields.specs.Bytes.{Bytes}
 use Rattle.fields.specs.Checks.{AllClear}
 use Rattle.fields.proofs.CheckLaws.{none-fails, all-clear}
-use Rattle.headerfields.specs.HeaderFields.{headerSize, recordCount}
-use Rattle.records.specs.Records.{walkEnd}
+use Rattle.lasfile.specs.HeaderFields.{headerSize, recordCount}
+use Rattle.lasfile.specs.Records.{walkEnd}
 use Rattle.lasfile.specs.FileChecks.{recordsEnd, fileChecks, fileVerdict}
 use Rattle.lasfile.specs.Passed.{PassingTells, FactsPass}
 

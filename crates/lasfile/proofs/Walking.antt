@@ -6,10 +6,10 @@ use native.Mathlib.Omega.{arith}
 use lib.ListN.{length, drop}
 use Rattle.fields.specs.Bytes.{Bytes, AllBytes}
 use Rattle.fields.specs.declared.Verdict.the-variants.{Passes}
-use Rattle.records.specs.Records.{sizeOf, walkEnd}
-use Rattle.records.proofs.RecordLaws.{walkEnd-step, walk-grows, front-in-size}
-use Rattle.headerfields.specs.HeaderFields.{headerSize, recordCount, pointOffset}
-use Rattle.headerfields.proofs.FieldLaws.{offset-low}
+use Rattle.lasfile.specs.Records.{sizeOf, walkEnd}
+use Rattle.lasfile.proofs.vlr.RecordLaws.{walkEnd-step, walk-grows, front-in-size}
+use Rattle.lasfile.specs.HeaderFields.{headerSize, recordCount, pointOffset}
+use Rattle.lasfile.proofs.header.FieldLaws.{offset-low}
 use Rattle.lasfile.specs.FileChecks.{fileVerdict}
 use Rattle.lasfile.proofs.Passed.{records-end, passed}
 

@@ -6,9 +6,9 @@ use lib.ListN.{length}
 use Rattle.fields.specs.Bytes.{Bytes, part}
 use Rattle.fields.specs.Checks.{Check, firstFailing, _below_, _differs-from_, not-so, _or_}
 use Rattle.fields.specs.declared.Verdict.{Verdict}
-use Rattle.formats.specs.Formats.{formatSize}
-use Rattle.headerfields.specs.HeaderFields.{signature, version, headerBlock, headerSize, pointOffset, recordCount, format, recordLength, pointCount}
-use Rattle.records.specs.Records.{walkEnd}
+use Rattle.points.specs.Formats.{formatSize}
+use Rattle.lasfile.specs.HeaderFields.{signature, version, headerBlock, headerSize, pointOffset, recordCount, format, recordLength, pointCount}
+use Rattle.lasfile.specs.Records.{walkEnd}
 use Rattle.scaling.specs.Scaling.{scalingOf, goodScaling}
 
 -- over a file's length, its header and the place where its records end

@@ -1,2 +1,5 @@
 pub mod FileChecks
 pub mod Passed
+pub mod HeaderFields
+pub mod Records
+pub mod ReadBack

@@ -6,9 +6,9 @@ use lib.ListN.{length}
 use lib.Dec.{T}
 use Rattle.fields.specs.Bytes.{Bytes, part}
 use Rattle.fields.specs.declared.Verdict.the-variants.{Passes}
-use Rattle.formats.specs.Formats.{formatSize}
+use Rattle.points.specs.Formats.{formatSize}
 use Rattle.scaling.specs.Scaling.{scalingOf, goodScaling}
-use Rattle.headerfields.specs.HeaderFields.{signature, version, headerBlock, headerSize, pointOffset, format, recordLength, pointCount}
+use Rattle.lasfile.specs.HeaderFields.{signature, version, headerBlock, headerSize, pointOffset, format, recordLength, pointCount}
 use Rattle.lasfile.specs.FileChecks.{recordsEnd, fileVerdict}
 
 pub record Passed (s : Bytes) : Type 0 where

@@ -1,10 +1,15 @@
-// The file checks, 1 to 10.
+// A LAS file: the places and counts of its header, its variable length records, and the file checks.
+pub mod header;
+pub mod vlr;
+
 ghost use mathlib.Core.Path.{_≡_};
 ghost use lib.ListN.{take, drop};
 ghost use Rattle.fields.specs.Checks.{firstFailing};
 ghost use Rattle.lasfile.specs.FileChecks.{fileChecks, fileVerdict};
+use crate::header::HEADER_BLOCK;
 use fields::Verdict;
-use headerfields::HEADER_BLOCK;
+use fields::slices;
+use points::layouts;
 
 // Checks 1 to 7, which look at the header and the file's length.
 fn check_header(file: &[u8]) -> Verdict
@@ -14,13 +19,13 @@ fn check_header(file: &[u8]) -> Verdict
     if length < HEADER_BLOCK {
         return Verdict::Fails(1);
     }
-    if !runs::same_bytes(runs::part_at(file, 0, 4), b"LASF") {
+    if !slices::same_bytes(slices::part_at(file, 0, 4), b"LASF") {
         return Verdict::Fails(2);
     }
-    if !runs::same_bytes(runs::part_at(file, 24, 2), b"\x01\x02") {
+    if !slices::same_bytes(slices::part_at(file, 24, 2), b"\x01\x02") {
         return Verdict::Fails(3);
     }
-    let size = headerfields::header_size(file);
+    let size = header::header_size(file);
     if size < HEADER_BLOCK {
         return Verdict::Fails(4);
     }
@@ -34,17 +39,17 @@ fn check_header(file: &[u8]) -> Verdict
 fn check_points(file: &[u8]) -> Verdict
     ensures { λ r. ⌜ r ≡ firstFailing (take 3 (drop 4 (fileChecks (now (file .entry))))) ⌝ }
 {
-    let format = headerfields::format(file);
+    let format = header::format(file);
     if 3 < format {
         return Verdict::Fails(5);
     }
     let layout = layouts::layout_of(format);
     let size = layout.size;
-    if headerfields::record_length(file) < size {
+    if header::record_length(file) < size {
         return Verdict::Fails(6);
     }
-    let offset = headerfields::point_offset(file);
-    if offset < headerfields::header_size(file) {
+    let offset = header::point_offset(file);
+    if offset < header::header_size(file) {
         return Verdict::Fails(7);
     }
     if file.len() < offset {
@@ -57,14 +62,14 @@ fn check_points(file: &[u8]) -> Verdict
 fn check_contents(file: &[u8]) -> Verdict
     ensures { λ r. ⌜ r ≡ firstFailing (drop 7 (fileChecks (now (file .entry)))) ⌝ }
 {
-    let size = headerfields::header_size(file);
-    let offset = headerfields::point_offset(file);
-    let count = headerfields::record_count(file);
-    if !records::records_fit(file, count, size, offset) {
+    let size = header::header_size(file);
+    let offset = header::point_offset(file);
+    let count = header::record_count(file);
+    if !vlr::records_fit(file, count, size, offset) {
         return Verdict::Fails(8);
     }
-    let length = headerfields::record_length(file);
-    let points = headerfields::point_count(file);
+    let length = header::record_length(file);
+    let points = header::point_count(file);
     if file.len() < offset + points * length {
         return Verdict::Fails(9);
     }

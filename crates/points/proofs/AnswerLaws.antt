@@ -10,7 +10,7 @@ use borrow.Author.Tests.{eq-eqb, leb-true, leb-false, lt-ltb, le-ltb}
 use Rattle.fields.specs.Bytes.{Bytes}
 use Rattle.fields.specs.Checks.{fails, firstFailing}
 use Rattle.fields.proofs.CheckLaws.{gives, goes-on, unclear}
-use Rattle.formats.specs.Formats.{formatSize, timePlace, colourPlace}
+use Rattle.points.specs.Formats.{formatSize, timePlace, colourPlace}
 use Rattle.points.specs.declared.Point.{Point}
 use Rattle.points.specs.declared.Decoded.the-variants.{Fields, Refused}
 use Rattle.points.specs.Points.{shape, numberAt, decodeChecks, fieldsIf, decoded, pointOf}

@@ -8,8 +8,8 @@ use lib.ListN.{length, take, drop, length-drop}
 use lib.Seq.{take-all}
 use Rattle.fields.specs.Bytes.{Bytes, num, part}
 use Rattle.fields.proofs.ByteLaws.{num-past, part-drop}
-use Rattle.formats.specs.declared.Place.{Place}
-use Rattle.formats.specs.declared.Place.the-variants.{At, Absent}
+use Rattle.points.specs.declared.formats.Place.{Place}
+use Rattle.points.specs.declared.formats.Place.the-variants.{At, Absent}
 use Rattle.points.specs.Points.{numberAt}
 
 -- r is the number of w bytes at a place

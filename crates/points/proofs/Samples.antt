@@ -6,7 +6,7 @@ use mathlib.Core.List.{[], _∷_}
 use lib.IntN.{pos, negsuc}
 use Rattle.fields.specs.Bytes.{Bytes, part, num}
 use Rattle.fields.specs.Checks.{fails, failIf, firstFailing}
-use Rattle.formats.specs.Formats.{formatSize, timePlace, colourPlace}
+use Rattle.points.specs.Formats.{formatSize, timePlace, colourPlace}
 use Rattle.points.specs.declared.Decoded.the-variants.{Fields}
 use Rattle.points.specs.Points.{bits, numberAt, pointOf, shape, decodeChecks, fieldsIf, decoded}
 

@@ -11,9 +11,9 @@ use Rattle.fields.specs.Bytes.{Bytes, part, num}
 use Rattle.fields.specs.Checks.{Test, Check, _below_, not-so, _or_, firstFailing}
 use Rattle.fields.specs.declared.Verdict.{Verdict}
 use Rattle.fields.specs.declared.Verdict.the-variants.{Passes, Fails}
-use Rattle.formats.specs.declared.Place.{Place}
-use Rattle.formats.specs.declared.Place.the-variants.{At, Absent}
-use Rattle.formats.specs.Formats.{formatSize, timePlace, colourPlace}
+use Rattle.points.specs.declared.formats.Place.{Place}
+use Rattle.points.specs.declared.formats.Place.the-variants.{At, Absent}
+use Rattle.points.specs.Formats.{formatSize, timePlace, colourPlace}
 use Rattle.points.specs.declared.Point.{Point}
 use Rattle.points.specs.declared.Decoded.{Decoded}
 use Rattle.points.specs.declared.Decoded.the-variants.{Fields, Refused}

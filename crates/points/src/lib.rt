@@ -1,11 +1,17 @@
-// Point records of the formats 0 to 3: their fields out of bytes.
+// Point records: the formats, decoding and encoding.
+pub mod common;
+pub mod encoding;
+pub mod formats;
+pub mod layouts;
+
 ghost use mathlib.Core.Path.{_≡_};
 ghost use Prim.Native.Nat.{_<_, _^_, min};
 ghost use mathlib.Core.Bool.{not};
 ghost use Rattle.fields.specs.Bytes.{num, part};
 ghost use Rattle.fields.specs.Checks.{fails};
 ghost use Rattle.points.specs.Points.{numberAt, shape, pointOf, decoded};
-use formats::Place;
+use crate::formats::Place;
+use fields::signed;
 
 // A point's fields. GPS time is its 64 bits.
 pub struct Point {

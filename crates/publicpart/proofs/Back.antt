@@ -10,13 +10,13 @@ use lib.Dec.{lit<}
 use Rattle.fields.specs.Bytes.{Bytes, part, num, zeros, join, start, pieces}
 use Rattle.fields.specs.Text.{cut}
 use Rattle.fields.proofs.ByteLaws.{num-bytesOf, pieces-back, length-join-pieces}
-use Rattle.records.specs.Records.{walk, recordsBytes}
-use Rattle.records.proofs.RecordLaws.{walk-back, walkEnd-back, length-recordsBytes}
+use Rattle.lasfile.specs.Records.{walk, recordsBytes}
+use Rattle.lasfile.proofs.vlr.RecordLaws.{walk-back, walkEnd-back, length-recordsBytes}
 use Rattle.scaling.specs.Scaling.{scalingIn}
 use Rattle.scaling.proofs.ScalingLaws.{scaling-in}
-use Rattle.numberruns.specs.NumberRuns.{numbersBytes}
-use Rattle.headerfields.specs.HeaderFields.{headerBlock, headerSize, pointOffset, recordCount, format, recordLength, pointCount}
-use Rattle.headerfields.proofs.FieldLaws.{size-written, offset-written, records-written, format-written, length-written, count-written}
+use Rattle.fields.specs.NumberRuns.{numbersBytes}
+use Rattle.lasfile.specs.HeaderFields.{headerBlock, headerSize, pointOffset, recordCount, format, recordLength, pointCount}
+use Rattle.lasfile.proofs.header.FieldLaws.{size-written, offset-written, records-written, format-written, length-written, count-written}
 use Rattle.lasfile.specs.FileChecks.{recordsEnd}
 use Rattle.lasfile.specs.Passed.{Passed}
 use Rattle.lasfile.proofs.Passed.{records-end}

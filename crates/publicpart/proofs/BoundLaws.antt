@@ -5,8 +5,8 @@ use Prim.Native.Nat.{ℕ, zero, suc}
 use mathlib.Core.List.{List, [], _∷_, map}
 use lib.ListN.{length, length-map}
 use Rattle.fields.specs.Bytes.{Bytes, join, bytesOf, zeros}
-use Rattle.numberruns.specs.NumberRuns.{numbersBytes}
-use Rattle.doubles.specs.Coordinate.{coordinateBits}
+use Rattle.fields.specs.NumberRuns.{numbersBytes}
+use Rattle.scaling.specs.Coordinate.{coordinateBits}
 use Rattle.scaling.specs.Scaling.{boundsOf}
 use Rattle.scaling.specs.declared.Scaling.{Scaling}
 use Rattle.publicpart.specs.Bounds.{upFrom, bins, stored, largest, smallest, extremesOf, boundNumbers, bounds}

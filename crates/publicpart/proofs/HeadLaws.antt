@@ -8,9 +8,9 @@ use Rattle.fields.specs.Lists.{total}
 use Rattle.fields.specs.Bytes.{Bytes, part, join, start, Fit}
 use Rattle.fields.proofs.ByteLaws.{length-bytesOf, field-back, length-join}
 use Rattle.fields.proofs.TextLaws.{length-padded}
-use Rattle.numberruns.specs.NumberRuns.{numbersBytes}
-use Rattle.numberruns.proofs.NumberLaws.{length-numbers}
-use Rattle.headerfields.specs.HeaderFields.{headerBlock}
+use Rattle.fields.specs.NumberRuns.{numbersBytes}
+use Rattle.fields.proofs.arrays.NumberLaws.{length-numbers}
+use Rattle.lasfile.specs.HeaderFields.{headerBlock}
 use Rattle.publicpart.specs.Head.{Head, headWidths, headFields}
 
 -- a pair, for long chains of them

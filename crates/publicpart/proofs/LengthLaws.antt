@@ -7,12 +7,12 @@ use lib.ListN.{length, drop}
 use Rattle.fields.specs.Bytes.{Bytes, AllBytes}
 use Rattle.fields.proofs.ListLaws.{total-kept, length-kept}
 use Rattle.fields.proofs.ByteLaws.{length-pieces}
-use Rattle.records.specs.Records.{walkEnd, recordLen}
-use Rattle.records.proofs.RecordLaws.{walk-total}
-use Rattle.headerfields.specs.HeaderFields.{headerSize, pointOffset, recordCount, recordLength, pointCount}
+use Rattle.lasfile.specs.Records.{walkEnd, recordLen}
+use Rattle.lasfile.proofs.vlr.RecordLaws.{walk-total}
+use Rattle.lasfile.specs.HeaderFields.{headerSize, pointOffset, recordCount, recordLength, pointCount}
 use Rattle.lasfile.specs.Passed.{Passed}
 use Rattle.lasfile.proofs.Passed.{records-end}
-use Rattle.keeping.specs.Keeping.{keepsPoint}
+use Rattle.sheet.specs.Keeping.{keepsPoint}
 use Rattle.publicpart.specs.Public.{Public, carriedOf, contents, restrict, publicOf, keptRecord}
 use Rattle.publicpart.specs.Render.{newOffset, totals}
 use Rattle.publicpart.proofs.PublicLaws.{public-is}

@@ -6,11 +6,11 @@ use Rattle.fields.specs.Lists.{kept}
 use Rattle.fields.specs.Bytes.{Bytes, part, num, pieces}
 use Rattle.fields.specs.Text.{cut}
 use Rattle.fields.proofs.ListLaws.{kept-kept, kept-comm}
-use Rattle.records.specs.Records.{walk}
+use Rattle.lasfile.specs.Records.{walk}
 use Rattle.scaling.specs.Scaling.{scalingIn, scalingOf}
 use Rattle.scaling.proofs.ScalingLaws.{scaling-in}
-use Rattle.headerfields.specs.HeaderFields.{headerSize, pointOffset, recordCount, format, recordLength, pointCount}
-use Rattle.keeping.specs.Keeping.{keepsPoint}
+use Rattle.lasfile.specs.HeaderFields.{headerSize, pointOffset, recordCount, format, recordLength, pointCount}
+use Rattle.sheet.specs.Keeping.{keepsPoint}
 use Rattle.publicpart.specs.Public.{Public, carriedOf, contents, keptRecord, restrict, publicOf}
 
 -- ---- the carried fields

@@ -6,9 +6,9 @@ use mathlib.Core.List.{_++_, append-assoc}
 use lib.ListN.{length, length-append}
 use Rattle.fields.specs.Lists.{total}
 use Rattle.fields.specs.Bytes.{Bytes, join}
-use Rattle.records.specs.Records.{recordLen, recordsBytes}
+use Rattle.lasfile.specs.Records.{recordLen, recordsBytes}
 use Rattle.scaling.specs.Scaling.{scalingIn}
-use Rattle.headerfields.specs.HeaderFields.{headerBlock}
+use Rattle.lasfile.specs.HeaderFields.{headerBlock}
 use Rattle.publicpart.specs.Bounds.{bins, bounds}
 use Rattle.publicpart.specs.Public.{Public}
 use Rattle.publicpart.specs.Head.{Head, headFields}

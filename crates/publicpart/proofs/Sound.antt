@@ -11,17 +11,17 @@ use Rattle.fields.proofs.ListLaws.{All-kept, total-kept, length-kept}
 use Rattle.fields.proofs.ByteLaws.{num-part-lt, length-part, length-pieces, pieces-width}
 use Rattle.fields.specs.Text.{Held}
 use Rattle.fields.proofs.TextLaws.{held}
-use Rattle.formats.specs.Formats.{formatSize}
-use Rattle.records.specs.Records.{walkEnd, recordLen}
-use Rattle.records.specs.ReadBack.{SoundRecord}
-use Rattle.records.proofs.RecordLaws.{walk-sound, walk-total, length-walk}
+use Rattle.points.specs.Formats.{formatSize}
+use Rattle.lasfile.specs.Records.{walkEnd, recordLen}
+use Rattle.lasfile.specs.ReadBack.{SoundRecord}
+use Rattle.lasfile.proofs.vlr.RecordLaws.{walk-sound, walk-total, length-walk}
 use Rattle.scaling.specs.Scaling.{scalingIn, goodScaling}
 use Rattle.scaling.proofs.ScalingLaws.{scaling-in}
-use Rattle.headerfields.specs.HeaderFields.{headerSize, pointOffset, recordCount, recordLength, pointCount}
-use Rattle.headerfields.proofs.FieldLaws.{offset-low, records-low, length-low, count-low}
+use Rattle.lasfile.specs.HeaderFields.{headerSize, pointOffset, recordCount, recordLength, pointCount}
+use Rattle.lasfile.proofs.header.FieldLaws.{offset-low, records-low, length-low, count-low}
 use Rattle.lasfile.specs.Passed.{Passed}
 use Rattle.lasfile.proofs.Passed.{records-end}
-use Rattle.keeping.specs.Keeping.{keepsPoint}
+use Rattle.sheet.specs.Keeping.{keepsPoint}
 use Rattle.publicpart.specs.Public.{Carried, Public, carriedOf, contents, restrict, publicOf, keptRecord}
 use Rattle.publicpart.specs.Render.{newOffset}
 use Rattle.publicpart.proofs.PublicLaws.{public-is}

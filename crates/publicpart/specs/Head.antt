@@ -4,8 +4,8 @@ use Prim.Native.Nat.{ℕ}
 use mathlib.Core.List.{List, [], _∷_}
 use Rattle.fields.specs.Bytes.{Bytes, bytesOf}
 use Rattle.fields.specs.Text.{padded}
-use Rattle.numberruns.specs.NumberRuns.{numbersBytes}
-use Rattle.headerfields.specs.HeaderFields.{signature, version, headerBlock}
+use Rattle.fields.specs.NumberRuns.{numbersBytes}
+use Rattle.lasfile.specs.HeaderFields.{signature, version, headerBlock}
 use Rattle.publicpart.specs.Public.{Carried}
 
 -- the carried fields, point offset, number of records, number of points, points by return, and bounds as their bits

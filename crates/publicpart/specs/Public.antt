@@ -7,9 +7,9 @@ use lib.ListN.{drop}
 use Rattle.fields.specs.Lists.{kept}
 use Rattle.fields.specs.Bytes.{Bytes, part, num, pieces}
 use Rattle.fields.specs.Text.{cut}
-use Rattle.records.specs.Records.{Record, walk}
-use Rattle.headerfields.specs.HeaderFields.{headerSize, pointOffset, recordCount, format, recordLength, pointCount}
-use Rattle.keeping.specs.Keeping.{keepsRecord, keepsPoint}
+use Rattle.lasfile.specs.Records.{Record, walk}
+use Rattle.lasfile.specs.HeaderFields.{headerSize, pointOffset, recordCount, format, recordLength, pointCount}
+use Rattle.sheet.specs.Keeping.{keepsRecord, keepsPoint}
 
 -- document 01's "carried header fields": bytes 4 to 23, both cut texts, day, year, format, record length, scales and offsets by their bits
 pub record Carried : Type 0 where

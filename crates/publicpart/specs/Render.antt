@@ -5,8 +5,8 @@ use mathlib.Core.List.{_++_}
 use lib.ListN.{length}
 use Rattle.fields.specs.Lists.{total}
 use Rattle.fields.specs.Bytes.{Bytes, join}
-use Rattle.headerfields.specs.HeaderFields.{headerBlock}
-use Rattle.records.specs.Records.{recordLen, recordsBytes}
+use Rattle.lasfile.specs.HeaderFields.{headerBlock}
+use Rattle.lasfile.specs.Records.{recordLen, recordsBytes}
 use Rattle.scaling.specs.Scaling.{scalingIn}
 use Rattle.publicpart.specs.Bounds.{bins, bounds}
 use Rattle.publicpart.specs.Public.{Public}

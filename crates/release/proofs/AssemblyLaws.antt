@@ -12,20 +12,20 @@ use Rattle.fields.specs.Bytes.{Bytes, AllBytes, zeros, join, pieces}
 use Rattle.fields.specs.declared.Verdict.the-variants.{Passes}
 use Rattle.fields.proofs.ByteLaws.{pieces-bytes, pieces-back, length-join-pieces}
 use Rattle.fields.proofs.ListLaws.{kept-same}
-use Rattle.formats.proofs.FormatLaws.{shared-first}
+use Rattle.points.proofs.formats.FormatLaws.{shared-first}
 use Rattle.scaling.specs.Scaling.{scalingIn, scalingOf}
-use Rattle.records.specs.Records.{recordLen, recordsBytes}
-use Rattle.records.proofs.RecordLaws.{length-recordsBytes}
-use Rattle.headerfields.proofs.FieldLaws.{count-low}
-use Rattle.headerfields.specs.HeaderFields.{headerBlock, pointOffset, pointCount, recordLength, format}
+use Rattle.lasfile.specs.Records.{recordLen, recordsBytes}
+use Rattle.lasfile.proofs.vlr.RecordLaws.{length-recordsBytes}
+use Rattle.lasfile.proofs.header.FieldLaws.{count-low}
+use Rattle.lasfile.specs.HeaderFields.{headerBlock, pointOffset, pointCount, recordLength, format}
 use Rattle.lasfile.specs.FileChecks.{fileVerdict}
 use Rattle.lasfile.proofs.Passed.{passed}
-use Rattle.keeping.specs.Keeping.{keepsPoint}
-use Rattle.pointruns.specs.PointRuns.{pointsOf}
-use Rattle.pointruns.proofs.RunLaws.{Held, points-held}
+use Rattle.sheet.specs.Keeping.{keepsPoint}
+use Rattle.tally.specs.PointRuns.{pointsOf}
+use Rattle.tally.proofs.point_runs.RunLaws.{Held, points-held}
 use Rattle.tally.specs.Tally.{tallyOf}
 use Rattle.tally.proofs.TallyLaws.{tally-count, tally-bins}
-use Rattle.bounds.proofs.BoundsLaws.{tally-bounds}
+use Rattle.tally.proofs.bounds.BoundsLaws.{tally-bounds}
 use Rattle.publicpart.specs.Public.{Public, contents, publicOf}
 use Rattle.publicpart.specs.Head.{Head, headFields}
 use Rattle.publicpart.specs.Render.{newOffset, headOf, render}
@@ -35,18 +35,18 @@ use Rattle.publicpart.proofs.HeadLaws.{length-head}
 use Rattle.publicpart.proofs.RenderLaws.{new-offset, total-length, render-parts, head-of}
 use Rattle.publicpart.proofs.LengthLaws.{no-longer}
 use Rattle.publicpart.proofs.Back.{fitting, length-render}
-use Rattle.heads.specs.declared.HeadTotals.{HeadTotals}
-use Rattle.heads.specs.Heads.{headWith, headBytes}
-use Rattle.heads.proofs.HeadLaws.{whole-head}
-use Rattle.keptrecords.specs.declared.KeptRecords.{KeptRecords}
-use Rattle.keptrecords.specs.KeptRecords.{measured}
-use Rattle.classes.specs.Classes.{TableOf, inTable}
-use Rattle.classes.proofs.ClassLaws.{table-keeps}
-use Rattle.keptpoints.specs.KeptPoints.{keptPoints}
-use Rattle.keptpoints.proofs.KeptPointLaws.{kept-held}
-use Rattle.assembly.specs.Assembly.{totalsOf, withPoints, written}
-use Rattle.assembly.proofs.PointLaws.{with-points}
-use Rattle.assembly.proofs.WrittenLaws.{head-said, written-is}
+use Rattle.release.specs.declared.head.HeadTotals.{HeadTotals}
+use Rattle.release.specs.Heads.{headWith, headBytes}
+use Rattle.release.proofs.head.HeadLaws.{whole-head}
+use Rattle.release.specs.declared.vlrs.KeptRecords.{KeptRecords}
+use Rattle.release.specs.KeptRecords.{measured}
+use Rattle.sheet.specs.Classes.{TableOf, inTable}
+use Rattle.sheet.proofs.class_table.ClassLaws.{table-keeps}
+use Rattle.release.specs.KeptPoints.{keptPoints}
+use Rattle.release.proofs.kept_points.KeptPointLaws.{kept-held}
+use Rattle.release.specs.Assembly.{totalsOf, withPoints, written}
+use Rattle.release.proofs.assembly.PointLaws.{with-points}
+use Rattle.release.proofs.assembly.WrittenLaws.{head-said, written-is}
 
 -- zeros behind a run, as far as there is room
 zeros-behind : (xs : Bytes) (k : ℕ) → length xs ≤ k → take k (xs ++ zeros k) ≡ xs ++ zeros (k - length xs)

@@ -1,8 +1,16 @@
 // The release: cuts a sample out of a LAS 1.2 file under a keep sheet, so that the output shows the public part and nothing else.
+pub mod assembly;
+pub mod copier;
+pub mod head;
+pub mod kept_points;
+pub mod vlrs;
+
 ghost use mathlib.Core.Path.{_≡_};
 ghost use Rattle.publicpart.specs.Release.{release};
 use fields::Verdict;
+use lasfile::header;
 use publicpart::Answer;
+use sheet::class_table;
 
 // Releases what a sheet keeps of a file. Everything that can refuse is decided before the first byte is written.
 pub fn release(file: &[u8], sheet: &[u8], out: &mut [u8]) -> Answer
@@ -16,15 +24,15 @@ pub fn release(file: &[u8], sheet: &[u8], out: &mut [u8]) -> Answer
     if let Verdict::Fails(n) = sheet_verdict {
         return Answer::Refused(n);
     }
-    let offset = headerfields::point_offset(file);
-    let format = headerfields::format(file);
-    let record_length = headerfields::record_length(file);
-    let count = headerfields::point_count(file);
-    let table = classes::class_table(sheet);
-    let points = keptpoints::count_points(&file[offset..], format, record_length, count, &table);
-    let kept = keptrecords::measure(file, sheet);
+    let offset = header::point_offset(file);
+    let format = header::format(file);
+    let record_length = header::record_length(file);
+    let count = header::point_count(file);
+    let table = class_table::class_table(sheet);
+    let points = kept_points::count_points(&file[offset..], format, record_length, count, &table);
+    let kept = vlrs::measure(file, sheet);
     let records = kept.count;
-    let start = headerfields::HEADER_BLOCK + kept.length;
+    let start = header::HEADER_BLOCK + kept.length;
     let needed = start + points * record_length;
     if out.len() < needed {
         return Answer::Short(needed);

@@ -5,7 +5,7 @@ use mathlib.Core.Bool.{Bool, true, false, _&&_}
 use lib.IntN.{ℤ, pos, negsuc}
 use lib.Ieee.{Float, fin, binary64, le, ofBits}
 use Rattle.fields.specs.Bytes.{Bytes, part, num}
-use Rattle.doubles.specs.Coordinate.{coordinateOf, coordinateBits}
+use Rattle.scaling.specs.Coordinate.{coordinateOf, coordinateBits}
 use Rattle.scaling.specs.declared.Scaling.{Scaling}
 use Rattle.scaling.specs.declared.Coordinates.{Coordinates}
 use Rattle.scaling.specs.declared.Extremes.{Extremes}

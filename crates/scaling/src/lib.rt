@@ -1,8 +1,10 @@
 // The six scales and offsets of a header as one record of doubles, and the coordinates and bounds that they give.
+pub mod doubles;
+
 ghost use mathlib.Core.Path.{_≡_};
-ghost use Rattle.doubles.specs.Coordinate.{coordinateBits};
+ghost use Rattle.scaling.specs.Coordinate.{coordinateBits};
 ghost use Rattle.scaling.specs.Scaling.{doubleAt, scalingOf, goodScale, goodOffset, goodScaling, coordinatesOf, boundsOf};
-use doubles::coordinate;
+use crate::doubles::coordinate;
 
 fn double_at(s: &[u8], at: usize) -> f64
     ensures { λ r. ⌜ r ≡ doubleAt (now (s .entry)) at ⌝ }

@@ -1,1 +1,5 @@
 pub mod Sheet
+pub mod Keeping
+pub mod Search
+pub mod KeptAnswers
+pub mod Classes

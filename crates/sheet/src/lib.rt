@@ -1,10 +1,15 @@
-// The keep sheet: its lines, and its checks 20 to 24.
+// The keep sheet: its lines and checks, and which classes, records and points it keeps.
+pub mod answers;
+pub mod class_table;
+pub mod lookup;
+
 ghost use mathlib.Core.Path.{_≡_};
 ghost use mathlib.Core.List.{[], _∷_};
 ghost use lib.ListN.{drop};
 ghost use Rattle.fields.specs.Bytes.{part, same};
 ghost use Rattle.fields.specs.Checks.{firstFailing};
 ghost use Rattle.sheet.specs.Sheet.{kind, lineLength, firstLine, afterLine, inOrder, lineChecks, sheetVerdict};
+use fields::slices;
 
 // The places of a line's fields: its kind, and the classes of a kind 1 line.
 pub const KIND: usize = 2;
@@ -31,14 +36,14 @@ fn line_length(rest: &[u8]) -> usize
 pub fn first_line(rest: &[u8]) -> &[u8]
     ensures { λ r. ⌜ now r ≡ firstLine (now (rest .entry)) ⌝ }
 {
-    runs::part_at(rest, 0, line_length(rest))
+    slices::part_at(rest, 0, line_length(rest))
 }
 
 // What follows the line that bytes begin with.
 pub fn after_line(rest: &[u8]) -> &[u8]
     ensures { λ r. ⌜ now r ≡ afterLine (now (rest .entry)) ⌝ }
 {
-    runs::part_at(rest, line_length(rest), rest.len())
+    slices::part_at(rest, line_length(rest), rest.len())
 }
 
 // Whether a line's lowest class is at most its highest; true of a line that has none.
@@ -53,7 +58,7 @@ fn in_order(line: &[u8]) -> bool
 fn marked(rest: &[u8]) -> bool
     ensures { λ r. ⌜ r ≡ same (part 0 2 (now (rest .entry))) (0x4B ∷ 0x53 ∷ []) ⌝ }
 {
-    runs::same_bytes(runs::part_at(rest, 0, 2), b"KS")
+    slices::same_bytes(slices::part_at(rest, 0, 2), b"KS")
 }
 
 // Checks a line behind its mark: its kind, its length, its classes.

@@ -10,8 +10,8 @@ use Rattle.fields.specs.Bytes.{Bytes}
 use Rattle.points.specs.Points.{bit}
 use Rattle.publicpart.specs.Bounds.{returnOf, bins}
 use Rattle.publicpart.proofs.BinLaws.{length-consIf, withReturn, bins-listed}
-use Rattle.stored.specs.Stored.{storedOf}
-use Rattle.stored.specs.declared.Stored.{Stored}
+use Rattle.tally.specs.Stored.{storedOf}
+use Rattle.tally.specs.declared.stored.Stored.{Stored}
 use Rattle.tally.specs.declared.Tally.{Tally}
 use Rattle.tally.specs.Tally.{binsWith, binNumbers, noTally, tallyWith, tallied, tallyOf}
 

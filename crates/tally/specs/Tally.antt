@@ -6,9 +6,9 @@ use lib.Dec.{eqb}
 use Rattle.fields.specs.Bytes.{Bytes}
 use Rattle.points.specs.Points.{bit}
 use Rattle.publicpart.specs.Bounds.{returnOf}
-use Rattle.stored.specs.Stored.{storedOf}
-use Rattle.stored.specs.declared.Stored.{Stored}
-use Rattle.extremes.specs.Extremes.{noExtremes, extremesWith}
+use Rattle.tally.specs.Stored.{storedOf}
+use Rattle.tally.specs.declared.stored.Stored.{Stored}
+use Rattle.tally.specs.Extremes.{noExtremes, extremesWith}
 use Rattle.tally.specs.declared.Bins.{Bins}
 use Rattle.tally.specs.declared.Tally.{Tally}
 

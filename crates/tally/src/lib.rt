@@ -1,15 +1,20 @@
-// The running tally of counts and stored extremes is one record, updated point by point.
+// Counts, bins and bounds of a run of points.
+pub mod bounds;
+pub mod extremes;
+pub mod point_runs;
+pub mod stored;
+
 ghost use mathlib.Core.Path.{_≡_};
 ghost use Prim.Native.Nat.{_+_, _*_, _<_, _≤_};
 ghost use lib.ListN.{length};
 ghost use lib.Dec.{eqb};
 ghost use Rattle.fields.specs.Bytes.{pieces};
 ghost use Rattle.points.specs.Points.{bit};
-ghost use Rattle.pointruns.specs.PointRuns.{pointsOf};
+ghost use Rattle.tally.specs.PointRuns.{pointsOf};
 ghost use Rattle.publicpart.specs.Bounds.{returnOf};
 ghost use Rattle.tally.specs.Tally.{noTally, binsWith, tallyWith, tallied, tallyOf, BinsUpTo, CountsUpTo};
+use crate::stored::Stored;
 use scaling::Extremes;
-use stored::Stored;
 
 // How many points have the return numbers 1 to 5.
 pub struct Bins {
@@ -141,7 +146,7 @@ fn tally_run(run: &[u8], format: u8, record_length: usize, count: usize) -> Tall
 pub fn tally_points(run: &[u8], format: u8, record_length: usize, count: usize) -> Tally
     ensures { λ r. ⌜ r ≡ tallyOf format (pointsOf count «record_length» (now (run .entry))) ⌝ }
 {
-    if pointruns::holds(run.len(), record_length, count) {
+    if point_runs::holds(run.len(), record_length, count) {
         return tally_run(run, format, record_length, count);
     }
     fresh()

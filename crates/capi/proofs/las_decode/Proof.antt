@@ -1,6 +1,6 @@
 -- `capi::las_decode` meets its contract. Assumes nothing.
 use mathlib.Core.Path.{_∙_, ap}
-use Rattle.pointanswers.specs.PointAnswers.{decodedNumbers}
+use Rattle.capi.specs.PointAnswers.{decodedNumbers}
 use Rattle.capi.specs.Interface.{lasDecode}
 use Rattle.capi.proofs.las_decode.Statement.{statement}
 use Rattle.capi.proofs.las_decode.Tie as tie

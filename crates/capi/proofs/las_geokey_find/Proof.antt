@@ -1,6 +1,6 @@
 -- `capi::las_geokey_find` meets its contract. Assumes nothing.
 use mathlib.Core.Path.{_∙_, ap}
-use Rattle.recordanswers.specs.RecordAnswers.{geokeyNumbers}
+use Rattle.capi.specs.RecordAnswers.{geokeyNumbers}
 use Rattle.capi.specs.Interface.{lasGeokeyFind}
 use Rattle.capi.proofs.las_geokey_find.Statement.{statement}
 use Rattle.capi.proofs.las_geokey_find.Tie as tie

@@ -1,6 +1,6 @@
 -- `capi::las_point_at` meets its contract. Assumes nothing.
 use mathlib.Core.Path.{_∙_, ap}
-use Rattle.pointanswers.specs.PointAnswers.{pointNumbers}
+use Rattle.capi.specs.PointAnswers.{pointNumbers}
 use Rattle.capi.specs.Interface.{lasPointAt}
 use Rattle.capi.proofs.las_point_at.Statement.{statement}
 use Rattle.capi.proofs.las_point_at.Tie as tie

@@ -1,6 +1,6 @@
 -- `capi::las_read_header` meets its contract. Assumes nothing.
 use mathlib.Core.Path.{_∙_, ap}
-use Rattle.headeranswers.specs.HeaderAnswers.{headerNumbers}
+use Rattle.capi.specs.HeaderAnswers.{headerNumbers}
 use Rattle.capi.specs.Interface.{lasReadHeader}
 use Rattle.capi.proofs.las_read_header.Statement.{statement}
 use Rattle.capi.proofs.las_read_header.Tie as tie

@@ -1,6 +1,6 @@
 -- `capi::las_record_kept` meets its contract. Assumes nothing.
 use mathlib.Core.Path.{_∙_, ap}
-use Rattle.answers.specs.Answers.{keptNumbers}
+use Rattle.capi.specs.Answers.{keptNumbers}
 use Rattle.capi.specs.Interface.{lasRecordKept}
 use Rattle.capi.proofs.las_record_kept.Statement.{statement}
 use Rattle.capi.proofs.las_record_kept.Tie as tie

@@ -1,5 +1,5 @@
 -- `capi::las_release` meets its contract. Assumes nothing.
-use Rattle.answers.specs.Answers.{releasedNumbers}
+use Rattle.capi.specs.Answers.{releasedNumbers}
 use borrow.Author.Needs.{needs}
 use Rattle.capi.specs.Interface.{lasRelease}
 use Rattle.capi.proofs.Lent.{in-numbers}

@@ -1,6 +1,6 @@
 -- `capi::las_vlr_step` meets its contract. Assumes nothing.
 use mathlib.Core.Path.{_∙_, ap}
-use Rattle.recordanswers.specs.RecordAnswers.{recordNumbers}
+use Rattle.capi.specs.RecordAnswers.{recordNumbers}
 use Rattle.capi.specs.Interface.{lasVlrStep}
 use Rattle.capi.proofs.las_vlr_step.Statement.{statement}
 use Rattle.capi.proofs.las_vlr_step.Tie as tie

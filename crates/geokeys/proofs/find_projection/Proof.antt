@@ -9,9 +9,9 @@ use mathlib.Core.List.{_∷_}
 use lib.ListN.{drop}
 use Rattle.fields.specs.Bytes.{Bytes, AllBytes}
 use Rattle.fields.specs.declared.Verdict.the-variants.{Passes}
-use Rattle.records.specs.Records.{places, sizeOf}
-use Rattle.records.proofs.RecordLaws.{places-none, places-step}
-use Rattle.headerfields.specs.HeaderFields.{headerSize, recordCount}
+use Rattle.lasfile.specs.Records.{places, sizeOf}
+use Rattle.lasfile.proofs.vlr.RecordLaws.{places-none, places-step}
+use Rattle.lasfile.specs.HeaderFields.{headerSize, recordCount}
 use Rattle.lasfile.specs.FileChecks.{fileVerdict}
 use Rattle.lasfile.proofs.Walking.{Walking, begin, one-more, low-place, onwards}
 use Rattle.geokeys.specs.GeoKeys.{first, isProjection, projectionPlace}

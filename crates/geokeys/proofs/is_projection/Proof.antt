@@ -3,8 +3,8 @@ use mathlib.Core.Path.{_≡_, sym, ap, _∙_}
 use Rattle.fields.specs.Bytes.{same}
 use Rattle.fields.specs.Text.{cut}
 use Rattle.fields.proofs.TextLaws.{cut-whole}
-use Rattle.records.specs.Records.{recordAt}
-use Rattle.records.proofs.FieldLaws.{user-at, id-at}
+use Rattle.lasfile.specs.Records.{recordAt}
+use Rattle.lasfile.proofs.vlr.FieldLaws.{user-at, id-at}
 use Rattle.geokeys.specs.GeoKeys.{projection, isProjection}
 use borrow.Author.Needs.{needs}
 use Rattle.geokeys.proofs.is_projection.Statement.{statement}

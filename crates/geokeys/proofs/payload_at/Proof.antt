@@ -2,7 +2,7 @@
 use mathlib.Core.Path.{sym, ap, _∙_}
 use Prim.Native.Nat.{ℕ, _+_}
 use Rattle.fields.specs.Bytes.{part}
-use Rattle.records.proofs.FieldLaws.{payload-at}
+use Rattle.lasfile.proofs.vlr.FieldLaws.{payload-at}
 use Rattle.geokeys.specs.GeoKeys.{payloadAt}
 use borrow.Author.Needs.{needs}
 use Rattle.geokeys.proofs.payload_at.Statement.{statement}

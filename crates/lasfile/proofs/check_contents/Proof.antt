@@ -9,7 +9,7 @@ use lib.Dec.{T, leb}
 use Rattle.fields.proofs.CheckLaws.{first-fails, first-clear, all-clear}
 use Rattle.scaling.specs.Scaling.{scalingOf, goodScaling}
 use Rattle.lasfile.proofs.Passed.{product-small}
-use Rattle.headerfields.specs.HeaderFields.{pointOffset, recordLength, pointCount}
+use Rattle.lasfile.specs.HeaderFields.{pointOffset, recordLength, pointCount}
 use Rattle.lasfile.specs.FileChecks.{recordsEnd}
 use Rattle.lasfile.proofs.check_contents.Statement.{statement}
 use Rattle.lasfile.proofs.check_contents.Tie as tie

@@ -10,7 +10,7 @@ use lib.ListN.{length, getD}
 use Rattle.fields.specs.Bytes.{Bytes, part, same}
 use Rattle.fields.proofs.ByteLaws.{agrees}
 use Rattle.fields.proofs.CheckLaws.{first-fails, first-clear}
-use Rattle.headerfields.specs.HeaderFields.{signature, version}
+use Rattle.lasfile.specs.HeaderFields.{signature, version}
 use borrow.Author.Needs.{needs}
 use Rattle.lasfile.proofs.check_header.Statement.{statement}
 use Rattle.lasfile.proofs.check_header.Tie as tie

@@ -3,10 +3,10 @@ use mathlib.Core.Path.{_≡_, sym, _∙_}
 use mathlib.Core.Logic.{inl, inr}
 use native.Mathlib.Omega.{arith}
 use denote.Ref.{now}
-use Rattle.formats.specs.Formats.{formatSize}
-use Rattle.layouts.proofs.LayoutLaws.{size-is}
+use Rattle.points.specs.Formats.{formatSize}
+use Rattle.points.proofs.layouts.LayoutLaws.{size-is}
 use Rattle.fields.proofs.CheckLaws.{first-fails, first-clear, all-clear}
-use Rattle.headerfields.specs.HeaderFields.{format}
+use Rattle.lasfile.specs.HeaderFields.{format}
 use Rattle.lasfile.proofs.check_points.Statement.{statement}
 use Rattle.lasfile.proofs.check_points.Tie as tie
 

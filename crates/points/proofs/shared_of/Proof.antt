@@ -7,8 +7,8 @@ use lib.Dec.{eqb}
 use mir.Syntax.{w8, w32}
 use mir.Val.{toZ}
 use mir.ValLaws.{toZ-ofZ}
-use Rattle.formats.specs.Formats.{timePlace, colourPlace}
-use Rattle.formats.proofs.FormatLaws.{plain}
+use Rattle.points.specs.Formats.{timePlace, colourPlace}
+use Rattle.points.proofs.formats.FormatLaws.{plain}
 use Rattle.points.specs.Points.{bits, pointOf}
 use Rattle.points.proofs.FieldLaws.{number-none}
 use Rattle.points.proofs.shared_of.Statement.{statement}

@@ -8,17 +8,17 @@ use lib.ListN.{length, drop}
 use Rattle.fields.specs.Bytes.{AllBytes, zeros}
 use Rattle.fields.specs.declared.Verdict.the-variants.{Passes}
 use Rattle.fields.proofs.StoreLaws.{tail-part}
-use Rattle.headerfields.specs.HeaderFields.{headerBlock, pointOffset, format, recordLength, pointCount}
+use Rattle.lasfile.specs.HeaderFields.{headerBlock, pointOffset, format, recordLength, pointCount}
 use Rattle.lasfile.specs.FileChecks.{fileVerdict}
 use Rattle.lasfile.proofs.Passed.{passed}
 use Rattle.sheet.specs.Sheet.{sheetVerdict}
-use Rattle.keptpoints.specs.KeptPoints.{keptPoints}
+use Rattle.release.specs.KeptPoints.{keptPoints}
 use Rattle.publicpart.specs.Public.{publicOf}
 use Rattle.publicpart.specs.Render.{render}
 use Rattle.publicpart.specs.Release.{Outcome}
 use Rattle.publicpart.specs.declared.Answer.the-variants.{Released, Short}
 use Rattle.publicpart.proofs.AnswerLaws.{refused-by-file, refused-by-sheet, release-short, release-long}
-use Rattle.assembly.specs.Assembly.{written}
+use Rattle.release.specs.Assembly.{written}
 use Rattle.release.proofs.AssemblyLaws.{assembled, Sized, sized}
 use borrow.Author.Needs.{needs}
 use Rattle.release.proofs.release.Statement.{statement}

@@ -3,7 +3,7 @@ use mathlib.Core.Path.{_∙_, ap}
 use lib.Ieee.{binary64, toBits}
 use mir.Syntax.{w32}
 use mir.ValLaws.{toZ-ofZ}
-use Rattle.doubles.specs.Coordinate.{coordinateBits}
+use Rattle.scaling.specs.Coordinate.{coordinateBits}
 use Rattle.scaling.proofs.bound.Statement.{statement}
 use Rattle.scaling.proofs.bound.Tie as tie
 

@@ -1,6 +1,6 @@
 -- `tally::fresh` meets its contract. Assumes nothing.
 use mathlib.Core.Path.{refl}
-use Rattle.extremes.specs.Extremes.{noExtremes}
+use Rattle.tally.specs.Extremes.{noExtremes}
 use Rattle.tally.specs.Tally.{noTally}
 use Rattle.tally.proofs.fresh.Statement.{statement}
 use Rattle.tally.proofs.fresh.Tie as tie

@@ -1,7 +1,7 @@
 -- `tally::tally_points` meets its contract. Assumes nothing.
 use mathlib.Core.Path.{sym, ap, _∙_}
 use lib.ListN.{length}
-use Rattle.pointruns.proofs.RunLaws.{in-run, points-held, points-none}
+use Rattle.tally.proofs.point_runs.RunLaws.{in-run, points-held, points-none}
 use Rattle.tally.specs.Tally.{tallyOf}
 use Rattle.tally.proofs.tally_points.Statement.{statement}
 use Rattle.tally.proofs.tally_points.Tie as tie

@@ -1,0 +1,74 @@
+// Answers of the library as structs of numbers with C's layout: document 01's number first, 0 where it is accepted.
+ghost use mathlib.Core.Path.{_≡_};
+ghost use Rattle.fields.specs.Checks.{numberOf};
+ghost use Rattle.capi.specs.Answers.{releasedNumbers, keptNumbers};
+use sheet::answers;
+
+#[repr(C)]
+pub struct las_released {
+    pub number: u64,
+    pub length: u64,
+    pub points: u64,
+    pub records: u64,
+}
+
+#[repr(C)]
+pub struct las_kept {
+    pub number: u64,
+    pub kept: u64,
+}
+
+// The number of a verdict.
+pub fn number_of(verdict: fields::Verdict) -> u64
+    ensures { λ r. ⌜ r ≡ numberOf verdict ⌝ }
+{
+    match verdict {
+        fields::Verdict::Passes => 0,
+        fields::Verdict::Fails(number) => number,
+    }
+}
+
+fn accepted(length: usize, points: usize, records: usize) -> las_released
+    ensures { λ r. ⌜ r ≡ record { number = 0; length = length; points = points; records = records } ⌝ }
+{
+    las_released {
+        number: 0,
+        length: length as u64,
+        points: points as u64,
+        records: records as u64,
+    }
+}
+
+// A refusal, with the length that an output would need.
+fn refused(number: u64, needed: usize) -> las_released
+    ensures { λ r. ⌜ r ≡ record { number = number; length = needed; points = 0; records = 0 } ⌝ }
+{
+    las_released {
+        number,
+        length: needed as u64,
+        points: 0,
+        records: 0,
+    }
+}
+
+// The numbers of a release.
+pub fn released_of(answer: publicpart::Answer) -> las_released
+    ensures { λ r. ⌜ r ≡ releasedNumbers answer ⌝ }
+{
+    match answer {
+        publicpart::Answer::Released(length, points, records) => accepted(length, points, records),
+        publicpart::Answer::Short(needed) => refused(30, needed),
+        publicpart::Answer::Refused(number) => refused(number, 0),
+    }
+}
+
+// The numbers of what a sheet says of a class or a record.
+pub fn kept_of(kept: answers::Kept) -> las_kept
+    ensures { λ r. ⌜ r ≡ keptNumbers kept ⌝ }
+{
+    match kept {
+        answers::Kept::Yes => las_kept { number: 0, kept: 1 },
+        answers::Kept::No => las_kept { number: 0, kept: 0 },
+        answers::Kept::Refused(number) => las_kept { number, kept: 0 },
+    }
+}

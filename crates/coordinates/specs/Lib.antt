@@ -1,3 +1,0 @@
-pub mod WholeNumbers
-pub mod Axes
-pub mod Statements

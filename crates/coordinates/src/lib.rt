@@ -1,1 +1,0 @@
-// Theorems about the coordinates that crates `doubles` and `scaling` compute: proofs/CoordinateTheorems.antt states them. No code.

@@ -1,0 +1,46 @@
+// Text fields: the cut of a text, compared and written.
+ghost use mathlib.Core.Path.{_≡_};
+ghost use lib.ListN.{length};
+ghost use lib.Seq.{sets};
+ghost use Rattle.fields.specs.Bytes.{same};
+ghost use Rattle.fields.specs.Text.{cut, padded};
+use crate::copying;
+use crate::slices;
+
+// The length of a text's cut.
+pub fn cut_length(text: &[u8]) -> usize
+    ensures { λ r. ⌜ r ≡ length (cut (now (text .entry))) ⌝ }
+{
+    let mut i = 0;
+    while i < text.len() {
+        if text[i] == 0 {
+            return i;
+        }
+        i += 1;
+    }
+    i
+}
+
+// Whether two texts have the same cut.
+pub fn same_cut(a: &[u8], b: &[u8]) -> bool
+    ensures { λ r. ⌜ r ≡ same (cut (now (a .entry))) (cut (now (b .entry))) ⌝ }
+{
+    slices::same_bytes(
+        slices::part_at(a, 0, cut_length(a)),
+        slices::part_at(b, 0, cut_length(b)),
+    )
+}
+
+// Writes a text's cut into a field of `width` bytes, padded with zeros.
+pub fn put_text(dst: &mut [u8], at: usize, width: usize, text: &[u8])
+    ensures { λ _. ⌜ now (dst .exit) ≡ sets (now (dst .entry)) at (padded width (cut (now (text .entry)))) ⌝ }
+{
+    if dst.len() <= at {
+        return;
+    }
+    let n = cut_length(text);
+    copying::copy(slices::part_at(text, 0, n), dst, at);
+    if n < width {
+        slices::zero(dst, at + n, width - n);
+    }
+}

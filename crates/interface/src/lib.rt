@@ -1,1 +1,0 @@
-// Theorems about the interface of crate `capi`: specs/ states them, proofs/ proves them. No code.

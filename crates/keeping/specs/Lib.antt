@@ -1,2 +1,0 @@
-pub mod Keeping
-pub mod Search

@@ -1,2 +1,0 @@
-pub mod KeptRecords
-pub mod RecordParts

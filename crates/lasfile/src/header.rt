@@ -1,0 +1,44 @@
+// The fields of a header that say where things are and how many there are. Bytes past the end read as 0.
+ghost use mathlib.Core.Path.{_≡_};
+ghost use Prim.Native.Nat.{_^_, _<_};
+ghost use Rattle.lasfile.specs.HeaderFields.{headerSize, pointOffset, recordCount, format, recordLength, pointCount};
+use fields::numbers::number_at;
+
+// The size of the public header block.
+pub const HEADER_BLOCK: usize = 227;
+
+pub fn header_size(file: &[u8]) -> usize
+    ensures { λ r. ⌜ (r ≡ headerSize (now (file .entry))) × (r < 2 ^ 16) ⌝ }
+{
+    number_at(file, 94, 2) as usize
+}
+
+pub fn point_offset(file: &[u8]) -> usize
+    ensures { λ r. ⌜ (r ≡ pointOffset (now (file .entry))) × (r < 2 ^ 32) ⌝ }
+{
+    number_at(file, 96, 4) as usize
+}
+
+pub fn record_count(file: &[u8]) -> usize
+    ensures { λ r. ⌜ (r ≡ recordCount (now (file .entry))) × (r < 2 ^ 32) ⌝ }
+{
+    number_at(file, 100, 4) as usize
+}
+
+pub fn format(file: &[u8]) -> u8
+    ensures { λ r. ⌜ (r ≡ format (now (file .entry))) × (r < 2 ^ 8) ⌝ }
+{
+    number_at(file, 104, 1) as u8
+}
+
+pub fn record_length(file: &[u8]) -> usize
+    ensures { λ r. ⌜ (r ≡ recordLength (now (file .entry))) × (r < 2 ^ 16) ⌝ }
+{
+    number_at(file, 105, 2) as usize
+}
+
+pub fn point_count(file: &[u8]) -> usize
+    ensures { λ r. ⌜ (r ≡ pointCount (now (file .entry))) × (r < 2 ^ 32) ⌝ }
+{
+    number_at(file, 107, 4) as usize
+}

@@ -1,0 +1,91 @@
+-- Laws of a point's bytes: the shared fields, then GPS time and colour where the format has them.
+-- Assumes nothing.
+use mathlib.Core.Path.{_≡_, refl, sym, ap, _∙_}
+use Prim.Native.Nat.{ℕ, _+_, _≤_}
+use native.Mathlib.Nat.{zero-add}
+use native.Mathlib.Omega.{arith}
+use mathlib.Core.List.{List, [], _∷_, _++_, append-nil, append-assoc}
+use lib.ListN.{length, length-append}
+use lib.Seq.{sets}
+use Rattle.fields.specs.Lists.{total}
+use Rattle.fields.specs.Bytes.{Bytes, Fit, join}
+use Rattle.fields.proofs.ByteLaws.{length-join, length-bytesOf}
+use Rattle.fields.proofs.StoreLaws.{sets-append}
+use Rattle.points.specs.declared.formats.Place.{Place}
+use Rattle.points.specs.declared.formats.Place.the-variants.{At, Absent}
+use Rattle.points.specs.Formats.{formatSize, timePlace, colourPlace}
+use Rattle.points.proofs.formats.FormatLaws.{Follows, widthIf, layered}
+use Rattle.points.specs.declared.Point.{Point}
+use Rattle.points.specs.Shared.{sharedFields}
+use Rattle.points.specs.Encoding.{ifPlaced, storedAt, timeFields, colours, colourFields, pointFields, pointBytes}
+
+-- ---- the widths of the fields
+
+abbrev pub sharedWidths : List ℕ
+sharedWidths = 4 ∷ 4 ∷ 4 ∷ 2 ∷ 1 ∷ 1 ∷ 1 ∷ 1 ∷ 2 ∷ []
+
+pub shared-fit : (q : Point) → Fit sharedWidths (sharedFields q)
+unfolding sharedFields
+shared-fit q =
+    (length-bytesOf 4 _, (length-bytesOf 4 _, (length-bytesOf 4 _, (length-bytesOf 2 _, (length-bytesOf 1 _, (length-bytesOf 1 _, (length-bytesOf 1 _, (length-bytesOf 1 _, (length-bytesOf 2 _, tt)))))))))
+
+pub length-shared : (q : Point) → length (join (sharedFields q)) ≡ 20
+unfolding total
+length-shared q = length-join sharedWidths (sharedFields q) (shared-fit q)
+
+pub length-placed : (place : Place) (ws : List ℕ) (fs : List Bytes) → Fit ws fs → length (join (ifPlaced place fs)) ≡ widthIf place (total (λ n. n) ws)
+unfolding ifPlaced join
+length-placed Absent ws fs h = refl
+length-placed (At at) ws fs h = length-join ws fs h
+
+pub length-time : (place : Place) (q : Point) → length (join (timeFields place q)) ≡ widthIf place 8
+unfolding timeFields total
+length-time place q = length-placed place (8 ∷ []) _ (length-bytesOf 8 (q .«gps_time»), tt)
+
+pub length-colour : (place : Place) (q : Point) → length (join (colourFields place q)) ≡ widthIf place 6
+unfolding colourFields colours total
+length-colour place q =
+    length-placed place (2 ∷ 2 ∷ 2 ∷ []) _ (length-bytesOf 2 (q .red), (length-bytesOf 2 (q .green), (length-bytesOf 2 (q .blue), tt)))
+
+pub join-append : (xs ys : List Bytes) → join (xs ++ ys) ≡ join xs ++ join ys
+unfolding join
+join-append [] ys = refl
+join-append (x ∷ xs) ys = rw (join-append xs ys, append-assoc x (join xs) (join ys))
+
+-- the bytes of a point, group by group
+pub bytes-groups : (f : ℕ) (q : Point) → pointBytes f q ≡ join (sharedFields q) ++ (join (timeFields (timePlace f) q) ++ join (colourFields (colourPlace f) q))
+unfolding pointBytes pointFields
+bytes-groups f q =
+    join-append (sharedFields q) (timeFields (timePlace f) q ++ colourFields (colourPlace f) q)
+    ∙ ap (λ (b : Bytes). join (sharedFields q) ++ b) (join-append (timeFields (timePlace f) q) (colourFields (colourPlace f) q))
+
+pub length-bytes : (f : ℕ) (q : Point) → f ≤ 3 → length (pointBytes f q) ≡ formatSize f
+length-bytes f q h =
+    let t = timePlace f in
+    let k = colourPlace f in
+    ap length (bytes-groups f q)
+    ∙ simp (length-append, length-shared q, length-time t q, length-colour k q) (omega (arith, layered f .size h))
+
+-- ---- fields at a place, written behind what is written
+
+pub stored-behind : (place : Place) (fs : List Bytes) (room b : Bytes) → Follows place (length b)
+    → storedAt place (join (ifPlaced place fs)) (sets room 0 b) ≡ sets room 0 (b ++ join (ifPlaced place fs))
+unfolding storedAt ifPlaced join
+stored-behind Absent fs room b h = rw (append-nil b)
+stored-behind (At at) fs room b h = rw (h, ← zero-add (length b)) (sym (sets-append room 0 b (join fs)))
+
+-- the room after the shared fields, and after GPS time and colour
+pub all-stored : (f : ℕ) (q : Point) (room shared whole : Bytes) → shared ≡ sets room 0 (join (sharedFields q))
+    → whole ≡ storedAt (colourPlace f) (join (colourFields (colourPlace f) q)) (storedAt (timePlace f) (join (timeFields (timePlace f) q)) shared)
+    → whole ≡ sets room 0 (pointBytes f q)
+unfolding timeFields colourFields
+all-stored f q room shared whole first then =
+    let t = timePlace f in
+    let s = join (sharedFields q) in
+    let time : Follows t (length s) = rw (length-shared q) (layered f .time) in
+    let wide : length (s ++ join (timeFields t q)) ≡ 20 + widthIf t 8 = length-append s (join (timeFields t q)) ∙ rw (length-shared q, length-time t q) in
+    let colour : Follows (colourPlace f) (length (s ++ join (timeFields t q))) = rw wide (layered f .colour) in
+    then
+    ∙ rw (first, stored-behind t _ room s time)
+    (stored-behind (colourPlace f) _ room (s ++ join (timeFields t q)) colour
+    ∙ ap (sets room 0) (append-assoc s (join (timeFields t q)) (join (colourFields (colourPlace f) q)) ∙ sym (bytes-groups f q)))

@@ -1,0 +1,32 @@
+-- `encoding::put_others` meets its contract. Assumes nothing.
+use mathlib.Core.Path.{ap, _∙_}
+use denote.Ref.{now}
+use borrow.Author.Needs.{needs}
+use mathlib.Core.List.{[], _∷_}
+use Rattle.fields.specs.Bytes.{bytesOf}
+use Rattle.points.specs.Formats.{timePlace, colourPlace}
+use Rattle.points.specs.declared.layouts.Layout.{Layout}
+use Rattle.points.specs.Layouts.{layoutOf}
+use Rattle.points.specs.Encoding.{timeFields, colours, colourFields}
+use Rattle.points.proofs.common.RoomLaws.{alone}
+use Rattle.points.proofs.encoding.RoomLaws.{placed}
+use Rattle.points.proofs.encoding.put_others.Statement.{statement}
+use Rattle.points.proofs.encoding.put_others.Tie as tie
+
+returns : tie.Need-returns
+unfolding layoutOf timeFields colourFields
+returns c =
+    let k = c .before .before in
+    let t = k .before .before .before .before .before in
+    let a = c .before .before .before .before .before .before .before .before .before .before .before .args in
+    let f = a .format in
+    let layout = c .before .before .before .before .before .before .before .before .before .layout-of .ensures in
+    let time = bytesOf 8 (a .point .«gps_time») in
+    let one =
+    rw (ap (λ (l : Layout). l .time) layout) at (t .put-at .ensures)
+    ∙ placed (timePlace f) (time ∷ []) time (now (a .room)) (alone time) in
+    rw (ap (λ (l : Layout). l .colour) layout, one) at (k .put-at2 .ensures)
+    ∙ placed (colourPlace f) (colours (a .point)) _ _ (k .before .colour-of .ensures)
+
+pub put-others-spec : {M : Type 1} → statement M
+put-others-spec = tie.close (tie.spec (λ c κs. tt) (λ c κs. tt) (λ c κs. tt) (λ c κs. tt) (λ c. search needs) returns)

@@ -1,0 +1,103 @@
+-- The bytes of a point's fields, and what encoding gives.
+-- Assumes nothing.
+use Prim.Native.Nat.{ℕ, _^_, _<_}
+use mathlib.Core.List.{List, [], _∷_, _++_}
+use lib.ListN.{length}
+use lib.Seq.{sets}
+use mir.Syntax.{w8, w32}
+use mir.Val.{SFits}
+use Rattle.fields.specs.Bytes.{Bytes, bytesOf, join}
+use Rattle.fields.specs.Checks.{Test, Check, _below_, _or_, firstFailing}
+use Rattle.fields.specs.declared.Verdict.{Verdict}
+use Rattle.fields.specs.declared.Verdict.the-variants.{Passes, Fails}
+use Rattle.points.specs.declared.formats.Place.{Place}
+use Rattle.points.specs.declared.formats.Place.the-variants.{At, Absent}
+use Rattle.points.specs.Formats.{timePlace, colourPlace}
+use Rattle.points.specs.declared.Point.{Point}
+use Rattle.points.specs.Points.{shape}
+use Rattle.points.specs.Shared.{sharedFields}
+
+-- fields that a format has, or none of them
+unfoldable pub ifPlaced : Place → List Bytes → List Bytes
+ifPlaced Absent fs = []
+ifPlaced (At at) fs = fs
+
+unfoldable pub timeFields : Place → Point → List Bytes
+timeFields place q = ifPlaced place (bytesOf 8 (q .«gps_time») ∷ [])
+
+unfoldable pub colours : Point → List Bytes
+colours q = bytesOf 2 (q .red) ∷ bytesOf 2 (q .green) ∷ bytesOf 2 (q .blue) ∷ []
+
+unfoldable pub colourFields : Place → Point → List Bytes
+colourFields place q = ifPlaced place (colours q)
+
+-- the fields of format f, back to back
+unfoldable pub pointFields : ℕ → Point → List Bytes
+pointFields f q = sharedFields q ++ (timeFields (timePlace f) q ++ colourFields (colourPlace f) q)
+
+unfoldable pub pointBytes : ℕ → Point → Bytes
+pointBytes f q = join (pointFields f q)
+
+-- what 13 is given for: a return number or number of returns exceeds 7
+unfoldable pub large : Point → Test
+large q = 7 below q .«return_number» or 7 below q .returns
+
+unfoldable pub encodeChecks : ℕ → ℕ → Point → Bytes → List Check
+encodeChecks f len q room = (12, shape f len (length room)) ∷ (13, large q) ∷ []
+
+unfoldable pub storedIf : Verdict → Bytes → Bytes → Verdict × Bytes
+storedIf Passes b room = (Passes, sets room 0 b)
+storedIf (Fails n) b room = (Fails n, room)
+
+-- what encoding gives, and the room afterwards: the caller's extra bytes in it stay
+unfoldable pub encoded : ℕ → ℕ → Point → Bytes → Verdict × Bytes
+encoded f len q room = storedIf (firstFailing (encodeChecks f len q room)) (pointBytes f q) room
+
+-- ---- fields that a format lacks
+
+unfoldable pub valueIf : Place → ℕ → ℕ
+valueIf Absent n = 0
+valueIf (At at) n = n
+
+-- a point with the fields that format f lacks at 0
+unfoldable pub blank : ℕ → Point → Point
+blank f q =
+    record {
+      x = q .x;
+      y = q .y;
+      z = q .z;
+      intensity = q .intensity;
+      «return_number» = q .«return_number»;
+      returns = q .returns;
+      «scan_direction» = q .«scan_direction»;
+      edge = q .edge;
+      «class_byte» = q .«class_byte»;
+      «scan_angle» = q .«scan_angle»;
+      «user_data» = q .«user_data»;
+      «source_id» = q .«source_id»;
+      «gps_time» = valueIf (timePlace f) (q .«gps_time»);
+      red = valueIf (colourPlace f) (q .red);
+      green = valueIf (colourPlace f) (q .green);
+      blue = valueIf (colourPlace f) (q .blue);
+    }
+
+-- the ranges of the code's types, which every `Point` of the code is in
+pub record InRange (q : Point) : Type 0 where
+  pub x : SFits w32 (q .x)
+  pub y : SFits w32 (q .y)
+  pub z : SFits w32 (q .z)
+  pub intensity : q .intensity < 2 ^ 16
+  pub class-byte : q .«class_byte» < 2 ^ 8
+  pub scan-angle : SFits w8 (q .«scan_angle»)
+  pub user-data : q .«user_data» < 2 ^ 8
+  pub source-id : q .«source_id» < 2 ^ 16
+  pub gps-time : q .«gps_time» < 2 ^ 64
+  pub red : q .red < 2 ^ 16
+  pub green : q .green < 2 ^ 16
+  pub blue : q .blue < 2 ^ 16
+
+-- ---- what the code's helpers leave in a room
+
+unfoldable pub storedAt : Place → Bytes → Bytes → Bytes
+storedAt Absent b room = room
+storedAt (At at) b room = sets room at b

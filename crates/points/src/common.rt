@@ -1,0 +1,41 @@
+// The fields that all point formats share, into the first 20 bytes of a record.
+ghost use mathlib.Core.Path.{_≡_};
+ghost use lib.Seq.{sets};
+ghost use mir.Syntax.{w32};
+ghost use mir.Val.{ofZ};
+ghost use Rattle.fields.specs.Bytes.{join};
+ghost use Rattle.points.specs.Shared.{flagByte, sharedFields};
+use crate::Point;
+
+// The 32 bits of a number in two's complement.
+fn bits_of(z: i32) -> u64
+    ensures { λ r. ⌜ r ≡ ofZ w32 z ⌝ }
+{
+    ((z as i64 + 4294967296) as u64) % 4294967296
+}
+
+// The byte at 14.
+fn flag_byte(point: Point) -> u64
+    ensures { λ r. ⌜ r ≡ flagByte point ⌝ }
+{
+    point.return_number as u64
+        + 8 * (point.returns as u64)
+        + 64 * (point.scan_direction as u64)
+        + 128 * (point.edge as u64)
+}
+
+// Writes the fields that all formats share.
+pub fn put_shared(room: &mut [u8], point: Point)
+    ensures { λ _. ⌜ now (room .exit) ≡ sets (now (room .entry)) 0 (join (sharedFields point)) ⌝ }
+{
+    let angle = bits_of(point.scan_angle as i32);
+    fields::numbers::put_number(room, 0, 4, bits_of(point.x));
+    fields::numbers::put_number(room, 4, 4, bits_of(point.y));
+    fields::numbers::put_number(room, 8, 4, bits_of(point.z));
+    fields::numbers::put_number(room, 12, 2, point.intensity as u64);
+    fields::numbers::put_number(room, 14, 1, flag_byte(point));
+    fields::numbers::put_number(room, 15, 1, point.class_byte as u64);
+    fields::numbers::put_number(room, 16, 1, angle);
+    fields::numbers::put_number(room, 17, 1, point.user_data as u64);
+    fields::numbers::put_number(room, 18, 2, point.source_id as u64);
+}

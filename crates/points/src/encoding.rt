@@ -1,0 +1,60 @@
+// A point's fields into the bytes of a record.
+ghost use mathlib.Core.Path.{_≡_};
+ghost use Rattle.fields.specs.Bytes.{bytesOf, join};
+ghost use Rattle.fields.specs.Checks.{fails};
+ghost use Rattle.points.specs.Formats.{timePlace, colourPlace};
+ghost use Rattle.points.specs.Encoding.{timeFields, colours, colourFields, large, storedAt, encoded};
+use crate::Point;
+use crate::common;
+use crate::formats::Place;
+use crate::layouts;
+use fields::Verdict;
+
+// Red, green and blue as one number of 6 bytes.
+fn colour_of(point: Point) -> u64
+    ensures { λ r. ⌜ bytesOf 6 r ≡ join (colours point) ⌝ }
+{
+    point.red as u64 + 65536 * (point.green as u64) + 4294967296 * (point.blue as u64)
+}
+
+// Writes a number at a place, if the format has it.
+fn put_at(room: &mut [u8], place: Place, width: usize, n: u64)
+    ensures { λ _. ⌜ now (room .exit) ≡ storedAt place (bytesOf width n) (now (room .entry)) ⌝ }
+{
+    if let Place::At(at) = place {
+        fields::numbers::put_number(room, at, width, n);
+    }
+}
+
+// Writes GPS time and colour, those that the format has.
+fn put_others(room: &mut [u8], format: u8, point: Point)
+    ensures { λ _. ⌜ now (room .exit) ≡ storedAt (colourPlace format) (join (colourFields (colourPlace format) point)) (storedAt (timePlace format) (join (timeFields (timePlace format) point)) (now (room .entry))) ⌝ }
+{
+    let layout = layouts::layout_of(format);
+    let time = layout.time;
+    let colour = layout.colour;
+    put_at(room, time, 8, point.gps_time);
+    put_at(room, colour, 6, colour_of(point));
+}
+
+// Whether a field is too large to encode.
+fn is_large(point: Point) -> bool
+    ensures { λ r. ⌜ r ≡ fails (large point) ⌝ }
+{
+    (7 < point.return_number) | (7 < point.returns)
+}
+
+// Writes a point's fields into a room of the record length. The bytes behind the format's size stay.
+pub fn encode(format: u8, record_length: u16, point: Point, room: &mut [u8]) -> Verdict
+    ensures { λ r. ⌜ (r, now (room .exit)) ≡ encoded format «record_length» point (now (room .entry)) ⌝ }
+{
+    if !crate::has_shape(format, record_length, room.len()) {
+        return Verdict::Fails(12);
+    }
+    if is_large(point) {
+        return Verdict::Fails(13);
+    }
+    common::put_shared(room, point);
+    put_others(room, format, point);
+    Verdict::Passes
+}

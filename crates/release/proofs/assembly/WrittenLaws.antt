@@ -1,0 +1,39 @@
+-- Laws of a file that is written: what its header says of a tally, and that the header is stored over the points as they stand.
+-- Assumes nothing.
+use mathlib.Core.Path.{_≡_, refl}
+use Prim.Native.Nat.{ℕ}
+use mathlib.Core.Bool.{Bool}
+use mathlib.Core.List.{List}
+use lib.ListN.{drop}
+use lib.Seq.{sets}
+use Rattle.fields.specs.Bytes.{Bytes}
+use Rattle.lasfile.specs.Records.{recordsBytes}
+use Rattle.scaling.specs.Scaling.{scalingOf}
+use Rattle.lasfile.specs.HeaderFields.{headerBlock, format, recordLength}
+use Rattle.tally.specs.PointRuns.{pointsOf}
+use Rattle.publicpart.specs.Bounds.{boundNumbers}
+use Rattle.publicpart.specs.Public.{carriedOf, publicOf}
+use Rattle.publicpart.specs.Head.{Head}
+use Rattle.tally.specs.declared.Tally.{Tally}
+use Rattle.tally.specs.Tally.{binNumbers, tallyOf}
+use Rattle.tally.specs.TallyBounds.{tallyBounds}
+use Rattle.release.specs.Heads.{headWith, headBytes}
+use Rattle.release.specs.Assembly.{withPoints, totalsOf, withHead, written}
+
+pub head-said : (s : Bytes) (t : Tally) (records start : ℕ) → _≡_ {A = Head} (headWith s (totalsOf s t records start)) (record {
+  carried = carriedOf s;
+  offset = start;
+  records = records;
+  points = t .count;
+  bins = binNumbers (t .bins);
+  bounds = boundNumbers (tallyBounds t (scalingOf s));
+})
+unfolding headWith totalsOf
+head-said s t records start = refl
+
+pub written-is : (sheet s : Bytes) (table : List Bool) (points records start : ℕ) (out : Bytes)
+    → let pointed : Bytes = withPoints table s start (sets out headerBlock (recordsBytes 2 (publicOf sheet s .records))) in
+    written sheet s table points records start out
+    ≡ sets pointed 0 (headBytes s (totalsOf s (tallyOf (format s) (pointsOf points (recordLength s) (drop start pointed))) records start))
+unfolding written withHead
+written-is sheet s table points records start out = refl

@@ -1,0 +1,22 @@
+-- Laws of the kept points of a run: one that holds all the records, and one that does not.
+-- Assumes nothing.
+use mathlib.Core.Path.{_≡_}
+use Prim.Native.Nat.{ℕ}
+use mathlib.Core.Bool.{Bool, false}
+use mathlib.Core.List.{List, []}
+use lib.ListN.{length}
+use Rattle.fields.specs.Lists.{kept}
+use Rattle.fields.specs.Bytes.{Bytes, pieces}
+use Rattle.tally.specs.PointRuns.{inRun}
+use Rattle.tally.proofs.point_runs.RunLaws.{Held, points-held, points-none}
+use Rattle.sheet.specs.Classes.{inTable}
+use Rattle.release.specs.KeptPoints.{keptPoints}
+
+pub kept-held : (table : List Bool) (f count len : ℕ) (run : Bytes) → Held count len (length run)
+    → keptPoints table f count len run ≡ kept (inTable table f) (pieces count len run)
+unfolding keptPoints
+kept-held table f count len run h = rw (points-held count len run h)
+
+pub kept-none : (table : List Bool) (f count len : ℕ) (run : Bytes) → inRun count len (length run) ≡ false → keptPoints table f count len run ≡ []
+unfolding keptPoints kept
+kept-none table f count len run e = rw (points-none count len run e)

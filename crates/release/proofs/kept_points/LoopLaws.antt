@@ -1,0 +1,84 @@
+-- A loop over a run of records, apart from any code: what holds at the start, after a turn, and at the end.
+-- Assumes nothing.
+use mathlib.Core.Path.{_≡_, refl, sym, ap, _∙_}
+use Prim.Native.Nat.{ℕ, zero, suc, _+_, _-_, _*_, _≤_, _<_}
+use native.Mathlib.Omega.{arith}
+use mathlib.Core.Bool.{Bool, true, false, cond}
+use mathlib.Core.List.{List, [], _++_, append-nil, append-assoc}
+use lib.ListN.{length, take, drop, length-append}
+use Rattle.fields.specs.Lists.{kept, consIf}
+use Rattle.fields.specs.Bytes.{Bytes, part, pieces}
+use Rattle.fields.proofs.ByteLaws.{pieces-step}
+use Rattle.tally.proofs.point_runs.RunLaws.{mul-step}
+
+-- the record at hand, as it is lent
+pub lent-record : (at w : ℕ) (run : Bytes) → take (at + w - at) (drop at run) ≡ part at w run
+unfolding part
+lent-record at w run = let e : at + w - at ≡ w = omega arith in rw e
+
+pub step-le : (b : Bool) (n : ℕ) → cond b n 0 ≤ n
+step-le true n = omega arith
+step-le false n = omega arith
+
+-- `left` records from `at` on are still to look at; `done` are the kept ones before them
+pub record Looked (keep : Bytes → Bool) (w count : ℕ) (run : Bytes) (done : List Bytes) (left at : ℕ) : Type 0 where
+  pub within : at + left * w ≤ length run
+  pub all : done ++ kept keep (pieces left w (drop at run)) ≡ kept keep (pieces count w run)
+
+cons-one : (b : Bool) (p : Bytes) (ps : List Bytes) → consIf b p [] ++ ps ≡ consIf b p ps
+unfolding consIf
+cons-one true p ps = refl
+cons-one false p ps = refl
+
+module _ (keep : Bytes → Bool) (w count : ℕ) (run : Bytes) where
+  pub begun : count * w ≤ length run → Looked keep w count run [] count 0
+  begun h = record { within = omega arith; all = refl }
+
+  pub done-all : (done : List Bytes) (at : ℕ) → Looked keep w count run done 0 at → done ≡ kept keep (pieces count w run)
+  unfolding kept pieces
+  done-all done at l = sym (append-nil done) ∙ l .all
+
+  module _ (done : List Bytes) (left at : ℕ) (more : 0 < left) (l : Looked keep w count run done left at) where
+    -- the record at hand lies in the run
+    pub ends : at + w + (left - 1) * w ≤ length run
+    ends = omega (arith, l .within, mul-step left w more)
+
+    -- one record more is looked at
+    pub next : (b : Bool) → b ≡ keep (part at w run) → Looked keep w count run (done ++ consIf b (part at w run) []) (left - 1) (at + w)
+    unfolding kept
+    next b e =
+        record {
+          within = ends;
+          all = rw (append-assoc, cons-one, e) (rw (pieces-step left w at run more) at (l .all));
+        }
+
+-- ---- counting
+
+length-one : (b : Bool) (p : Bytes) → length (consIf b p []) ≡ cond b 1 0
+unfolding consIf
+length-one true p = refl
+length-one false p = refl
+
+pub record Counted (keep : Bytes → Bool) (w count : ℕ) (run : Bytes) (left at n : ℕ) : Type 0 where
+  pub done : List Bytes
+  pub looked : Looked keep w count run done left at
+  pub number : n ≡ length done
+  pub few : n + left ≤ count
+
+module _ (keep : Bytes → Bool) (w count : ℕ) (run : Bytes) where
+  pub count-begun : count * w ≤ length run → Counted keep w count run count 0 0
+  count-begun h = record { done = []; looked = begun keep w count run h; number = refl; few = omega arith }
+
+  pub count-next : (left at n : ℕ) → 0 < left → Counted keep w count run left at n → (b : Bool) → b ≡ keep (part at w run)
+      → Counted keep w count run (left - 1) (at + w) (n + cond b 1 0)
+  count-next left at n more c b e =
+      record {
+        done = c .done ++ consIf b (part at w run) [];
+        looked = next keep w count run (c .done) left at more (c .looked) b e;
+        number = rw (c .number, length-append, length-one);
+        few = omega (arith, c .few, step-le b 1);
+      }
+
+  pub count-ended : (left at n : ℕ) → left ≤ 0 → Counted keep w count run left at n → n ≡ length (kept keep (pieces count w run))
+  count-ended zero at n h c = c .number ∙ ap length (done-all keep w count run (c .done) at (c .looked))
+  count-ended (suc left) at n h c = absurd (omega arith)

@@ -1,0 +1,74 @@
+// A header, written from what it says: the carried fields of a file, and totals.
+ghost use mathlib.Core.Path.{_≡_};
+ghost use lib.Seq.{sets};
+ghost use Rattle.release.specs.declared.head.HeadTotals.{HeadTotals};
+ghost use Rattle.release.specs.Heads.{headWith, headBytes};
+ghost use Rattle.release.specs.Stores.{fieldsStored};
+use fields::arrays::put_numbers;
+use fields::copying;
+use fields::numbers::number_at;
+use fields::numbers::put_number;
+use fields::slices;
+use fields::text;
+use lasfile::header;
+use lasfile::header::HEADER_BLOCK;
+use scaling::Bounds;
+use tally::Bins;
+
+// What a header says besides the carried fields.
+pub struct HeadTotals {
+    pub offset: u64,
+    pub records: u64,
+    pub points: u64,
+    pub bins: Bins,
+    pub bounds: Bounds,
+}
+
+// Places 0 to 89: signature to generating software, which are the same for all totals.
+fn put_front(source: &[u8], out: &mut [u8])
+    ensures { λ _. ⌜ ((t : HeadTotals) → now (out .exit) ≡ fieldsStored 0 5 (headWith (now (source .entry)) t) (now (out .entry))) ⌝ }
+{
+    copying::copy(b"LASF", out, 0);
+    copying::copy(slices::part_at(source, 4, 20), out, 4);
+    copying::copy(b"\x01\x02", out, 24);
+    text::put_text(out, 26, 32, slices::part_at(source, 26, 32));
+    text::put_text(out, 58, 32, slices::part_at(source, 58, 32));
+}
+
+// Places 90 to 130: creation day to points by return.
+fn put_middle(source: &[u8], totals: HeadTotals, out: &mut [u8])
+    ensures { λ _. ⌜ now (out .exit) ≡ fieldsStored 5 9 (headWith (now (source .entry)) totals) (now (out .entry)) ⌝ }
+{
+    let day = number_at(source, 90, 2);
+    let year = number_at(source, 92, 2);
+    put_numbers(out, 90, 2, &[day, year, HEADER_BLOCK as u64]);
+    put_numbers(out, 96, 4, &[totals.offset, totals.records]);
+    put_number(out, 104, 1, header::format(source) as u64);
+    put_number(out, 105, 2, header::record_length(source) as u64);
+    let b = totals.bins;
+    put_numbers(
+        out,
+        107,
+        4,
+        &[totals.points, b.first, b.second, b.third, b.fourth, b.fifth],
+    );
+}
+
+// Writes a header at the front of `out`: the carried fields of the file `source`, and these totals. A source shorter than a header gives none.
+pub fn put_head(source: &[u8], totals: HeadTotals, out: &mut [u8])
+    ensures { λ _. ⌜ now (out .exit) ≡ sets (now (out .entry)) 0 (headBytes (now (source .entry)) totals) ⌝ }
+{
+    if source.len() < HEADER_BLOCK {
+        return;
+    }
+    put_front(source, out);
+    put_middle(source, totals, out);
+    copying::copy(slices::part_at(source, 131, 48), out, 131);
+    let b = totals.bounds;
+    put_numbers(
+        out,
+        179,
+        8,
+        &[b.max_x, b.min_x, b.max_y, b.min_y, b.max_z, b.min_z],
+    );
+}

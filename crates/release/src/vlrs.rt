@@ -1,0 +1,124 @@
+// The records that a sheet keeps of a file: how many and how long they are, and writing them. What is said here holds of any file; one that fails the file checks
+// may count records that it does not have, and each takes a step. `vlr` is bytes that begin with a record.
+ghost use mathlib.Core.Path.{_≡_};
+ghost use Prim.Native.Nat.{_<_, _^_};
+ghost use lib.Seq.{sets};
+ghost use Rattle.lasfile.specs.Records.{recordOf, recordLen, recordBytes, recordsBytes};
+ghost use Rattle.publicpart.specs.Public.{keptRecord, publicOf};
+ghost use Rattle.release.specs.KeptRecords.{measured};
+ghost use Rattle.release.specs.RecordParts.{nameBytes, contentBytes};
+ghost use Rattle.lasfile.specs.HeaderFields.{headerBlock};
+use fields::copying;
+use fields::numbers::number_at;
+use fields::numbers::put_number;
+use fields::slices;
+use fields::text;
+use lasfile::header;
+use lasfile::header::HEADER_BLOCK;
+use lasfile::vlr;
+use lasfile::vlr::FRONT;
+use sheet::lookup;
+
+// How many records are kept, and how long they are with their headers.
+pub struct KeptRecords {
+    pub count: usize,
+    pub length: usize,
+}
+
+// Whether a sheet keeps the record.
+fn keeps(sheet: &[u8], vlr: &[u8]) -> bool
+    ensures { λ r. ⌜ r ≡ keptRecord (now (sheet .entry)) (recordOf 2 (now (vlr .entry))) ⌝ }
+{
+    let id = number_at(vlr, 18, 2) as u16;
+    lookup::holds_record(sheet, slices::part_at(vlr, 2, 16), id)
+}
+
+// Its payload, as far as it is there.
+fn payload_of(vlr: &[u8]) -> &[u8]
+    ensures { λ r. ⌜ now r ≡ recordOf 2 (now (vlr .entry)) .payload ⌝ }
+{
+    slices::part_at(vlr, FRONT, vlr::payload_length_at(vlr, 0))
+}
+
+// The bytes that it takes in a released file.
+fn written_length(vlr: &[u8]) -> usize
+    ensures { λ r. ⌜ (r ≡ recordLen 2 (recordOf 2 (now (vlr .entry)))) × (r < 2 ^ 17) ⌝ }
+{
+    let payload = payload_of(vlr);
+    FRONT + payload.len()
+}
+
+// Measures the records that a sheet keeps of a file.
+pub fn measure(file: &[u8], sheet: &[u8]) -> KeptRecords
+    ensures { λ r. ⌜ r ≡ measured (publicOf (now (sheet .entry)) (now (file .entry)) .records) ⌝ }
+{
+    let mut at = header::header_size(file);
+    let mut left = header::record_count(file);
+    let mut count = 0;
+    let mut length = 0;
+    while 0 < left {
+        let vlr = slices::part_at(file, at, file.len());
+        if keeps(sheet, vlr) {
+            count += 1;
+            length += written_length(vlr);
+        }
+        at += vlr::size_at(file, at);
+        left -= 1;
+    }
+    KeptRecords { count, length }
+}
+
+// Places 0 to 19 of a record: reserved 0, user ID, record ID.
+fn put_name(vlr: &[u8], out: &mut [u8])
+    ensures { λ _. ⌜ now (out .exit) ≡ sets (now (out .entry)) 0 (nameBytes (recordOf 2 (now (vlr .entry)))) ⌝ }
+{
+    slices::zero(out, 0, 2);
+    text::put_text(out, 2, 16, slices::part_at(vlr, 2, 16));
+    put_number(out, 18, 2, number_at(vlr, 18, 2));
+}
+
+// Places 20 on: payload length, description, payload.
+fn put_contents(vlr: &[u8], out: &mut [u8])
+    ensures { λ _. ⌜ now (out .exit) ≡ sets (now (out .entry)) 20 (contentBytes (recordOf 2 (now (vlr .entry)))) ⌝ }
+{
+    let payload = payload_of(vlr);
+    put_number(out, 20, 2, payload.len() as u64);
+    text::put_text(out, 22, 32, slices::part_at(vlr, 22, 32));
+    copying::copy(payload, out, FRONT);
+}
+
+// Writes a record to the front of `out`: reserved 0, texts padded with zeros, the payload as it is.
+fn put_record(vlr: &[u8], out: &mut [u8])
+    ensures { λ _. ⌜ now (out .exit) ≡ sets (now (out .entry)) 0 (recordBytes 2 (recordOf 2 (now (vlr .entry)))) ⌝ }
+{
+    put_name(vlr, out);
+    put_contents(vlr, out);
+}
+
+// Writes a record to the part of `out` that starts at a place.
+fn put_record_at(vlr: &[u8], out: &mut [u8], to: usize)
+    ensures { λ _. ⌜ now (out .exit) ≡ sets (now (out .entry)) to (recordBytes 2 (recordOf 2 (now (vlr .entry)))) ⌝ }
+{
+    if out.len() <= to {
+        return;
+    }
+    put_record(vlr, &mut out[to..]);
+}
+
+// Writes the records that a sheet keeps of a file one after the other, directly after the header.
+pub fn copy_records(file: &[u8], sheet: &[u8], out: &mut [u8])
+    ensures { λ _. ⌜ now (out .exit) ≡ sets (now (out .entry)) headerBlock (recordsBytes 2 (publicOf (now (sheet .entry)) (now (file .entry)) .records)) ⌝ }
+{
+    let mut at = header::header_size(file);
+    let mut left = header::record_count(file);
+    let mut to = HEADER_BLOCK;
+    while 0 < left {
+        let vlr = slices::part_at(file, at, file.len());
+        if keeps(sheet, vlr) {
+            put_record_at(vlr, out, to);
+            to += written_length(vlr);
+        }
+        at += vlr::size_at(file, at);
+        left -= 1;
+    }
+}

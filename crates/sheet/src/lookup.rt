@@ -1,0 +1,82 @@
+// Which classes and records a keep sheet keeps, by its lines alone.
+ghost use mathlib.Core.Path.{_≡_};
+ghost use Rattle.fields.specs.Lists.{some};
+ghost use Rattle.fields.specs.Text.{cut};
+ghost use Rattle.sheet.specs.Sheet.{lines};
+ghost use Rattle.sheet.specs.Keeping.{containsClass, namesRecord, keepsClass, keepsRecord};
+ghost use Rattle.sheet.specs.Search.{lineKeeps};
+use fields::slices;
+use fields::text;
+
+// What is looked for on a sheet: a class, or a record's ID beside its user ID.
+enum Sought {
+    Class(u8),
+    Record(u16),
+}
+
+// The places of a kind 2 line's fields.
+const USER_ID: usize = 3;
+
+const RECORD_ID: usize = 19;
+
+// Whether a line is of kind 1 and contains a class.
+fn contains_class(line: &[u8], class: u8) -> bool
+    ensures { λ r. ⌜ r ≡ containsClass (now (line .entry)) class ⌝ }
+{
+    (fields::numbers::u8_at(line, crate::KIND) == 1)
+        & ((fields::numbers::u8_at(line, crate::LOWEST) <= class)
+            & (class <= fields::numbers::u8_at(line, crate::HIGHEST)))
+}
+
+// Whether a line is of kind 2 and names a record.
+fn names_record(line: &[u8], user: &[u8], id: u16) -> bool
+    ensures { λ r. ⌜ r ≡ namesRecord (now (line .entry)) (cut (now (user .entry))) id ⌝ }
+{
+    (fields::numbers::u8_at(line, crate::KIND) == 2)
+        & (text::same_cut(slices::part_at(line, USER_ID, 16), user)
+            & (fields::numbers::number_at(line, RECORD_ID, 2) == id as u64))
+}
+
+// Whether a line keeps what is looked for; `user` is a record's user ID, and is not looked at for a class.
+fn line_keeps(line: &[u8], sought: Sought, user: &[u8]) -> bool
+    ensures { λ r. ⌜ r ≡ lineKeeps sought (cut (now (user .entry))) (now (line .entry)) ⌝ }
+{
+    match sought {
+        Sought::Class(class) => contains_class(line, class),
+        Sought::Record(id) => names_record(line, user, id),
+    }
+}
+
+// Whether some line of a sheet keeps what is looked for.
+fn some_line_keeps(sheet: &[u8], sought: Sought, user: &[u8]) -> bool
+    ensures { λ r. ⌜ r ≡ some (lineKeeps sought (cut (now (user .entry)))) (lines (now (sheet .entry))) ⌝ }
+{
+    let mut rest = sheet;
+    let mut left = crate::MOST_LINES;
+    while 0 < rest.len() {
+        if left == 0 {
+            return false;
+        }
+        if line_keeps(crate::first_line(rest), sought, user) {
+            return true;
+        }
+        let next = crate::after_line(rest);
+        rest = next;
+        left -= 1;
+    }
+    false
+}
+
+// Whether some line contains a class. Does not check the sheet.
+pub fn holds_class(sheet: &[u8], class: u8) -> bool
+    ensures { λ r. ⌜ r ≡ keepsClass (now (sheet .entry)) class ⌝ }
+{
+    some_line_keeps(sheet, Sought::Class(class), b"")
+}
+
+// Whether some line names a record. Does not check the sheet.
+pub fn holds_record(sheet: &[u8], user: &[u8], id: u16) -> bool
+    ensures { λ r. ⌜ r ≡ keepsRecord (now (sheet .entry)) (cut (now (user .entry))) id ⌝ }
+{
+    some_line_keeps(sheet, Sought::Record(id), user)
+}

@@ -1,1 +1,0 @@
-// Theorems about the keep sheets that crates `sheet` and `keeping` read: specs/ states them. No code.

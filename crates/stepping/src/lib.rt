@@ -1,1 +1,0 @@
-// Theorems about stepping over the records by crate `cursor`: specs/ states them. No code.

@@ -1,0 +1,68 @@
+-- Demand 3 holds. All that is used of the file's layout: a released file passes and has its public part (`released-passes`, `released-public`).
+-- Assumes nothing.
+use mathlib.Core.Path.{_≡_, refl, sym, ap, _∙_}
+use Prim.Native.Nat.{ℕ, _-_, _≤_, _<_}
+use lib.ListN.{length}
+use Rattle.fields.specs.Bytes.{Bytes}
+use Rattle.fields.specs.declared.Verdict.the-variants.{Passes}
+use Rattle.sheet.specs.Sheet.{sheetVerdict}
+use Rattle.publicpart.specs.Public.{Public, publicOf}
+use Rattle.publicpart.specs.Render.{render}
+use Rattle.publicpart.specs.Release.{Outcome, numbers, release}
+use Rattle.publicpart.specs.declared.Answer.the-variants.{Short}
+use Rattle.theorems.specs.Terms.{Good, needed, Accepted, OfOutput}
+use Rattle.theorems.specs.Demand3.{tooShort, Demand3}
+use Rattle.publicpart.proofs.AnswerLaws.{numbers-short, release-long, release-short}
+use Rattle.theorems.proofs.ReleaseLaws.{released, released-passes, released-public, Known, accepted-output, accepted-means, of-output}
+
+module _ (sheet : Bytes) (sheetGood : sheetVerdict sheet ≡ Passes) where
+  -- outputs that are equal have one public part
+  public-same : (f g a b : Bytes) → Good f → Good g → needed sheet f ≤ length a → needed sheet g ≤ length b
+      → release sheet f a .1 ≡ release sheet g b .1 → publicOf sheet f ≡ publicOf sheet g
+  public-same f g a b goodF goodG roomF roomG e =
+      sym (released-public sheet f goodF (length a - needed sheet f))
+      ∙ ap (publicOf sheet) (sym (accepted-output sheet f a sheetGood goodF roomF) ∙ e ∙ accepted-output sheet g b sheetGood goodG roomG)
+      ∙ released-public sheet g goodG (length b - needed sheet g)
+
+  release-same : (f g a b : Bytes) → Good f → Good g → length a ≡ length b → needed sheet f ≤ length a → needed sheet g ≤ length b
+      → publicOf sheet f ≡ publicOf sheet g → release sheet f a ≡ release sheet g b
+  release-same f g a b goodF goodG same roomF roomG e =
+      release-long sheet f a (goodF .passes) sheetGood roomF
+      ∙ rw (e, same) (sym (release-long sheet g b (goodG .passes) sheetGood roomG))
+
+  too-short : (f a : Bytes) → Good f → (n : ℕ) → needed sheet f ≡ n → length a < n
+      → (numbers (release sheet f a .0) ≡ tooShort n) × (release sheet f a .1 ≡ a)
+  too-short f a good n e less =
+      let r : release sheet f a ≡ (Short (needed sheet f), a) = release-short sheet f a (good .passes) sheetGood (rw e less) in
+      (rw (r, e) (numbers-short n), rw r)
+
+  -- the released file as a file again
+  again-at : (f a b : Bytes) → Good f → needed sheet f ≤ length a → length b ≡ length a → (k : ℕ) → release sheet (released sheet f k) b ≡ release sheet f a
+  again-at f a b g room same k =
+      let e : publicOf sheet (released sheet f k) ≡ publicOf sheet f = released-public sheet f g k in
+      release-long sheet (released sheet f k) b (released-passes sheet f g k) sheetGood (rw (e, same) room)
+      ∙ rw (e, same) (sym (release-long sheet f a (g .passes) sheetGood room))
+
+again : (sheet f a b : Bytes) (n q r : ℕ) → Accepted sheet f a n q r → length b ≡ length a → OfOutput sheet f a n (λ file. release sheet file b ≡ release sheet f a)
+again sheet f a b n q r h same =
+    let m : Known sheet f a n q r = accepted-means sheet f a n q r h in
+    of-output sheet f a n q r (λ file. release sheet file b ≡ release sheet f a) m
+    (again-at sheet (m .sheet-passes) f a b (m .good) (m .room) same)
+
+pub demand3 : Demand3
+demand3 =
+    record {
+      exactly =
+          λ sheet f g a b sheetGood goodF goodG same roomF roomG. (
+            λ e. public-same sheet sheetGood f g a b goodF goodG roomF roomG (e .1),
+            λ e.
+                let r : release sheet f a ≡ release sheet g b = release-same sheet sheetGood f g a b goodF goodG same roomF roomG e in
+                (ap (λ (o : Outcome). numbers (o .0)) r, ap (λ (o : Outcome). o .1) r),
+          );
+      short =
+          λ sheet f g a b sheetGood goodF goodG same public less.
+          let x = too-short sheet sheetGood f a goodF (needed sheet f) refl less in
+          let y = too-short sheet sheetGood g b goodG (needed sheet f) (ap (λ (p : Public). length (render p)) (sym public)) (rw (← same) less) in
+          (x .0, x .1, y .0, y .1);
+      again = again;
+    }

@@ -1,0 +1,12 @@
+pub mod ReleaseLaws
+pub mod Demand3
+pub mod NeverLonger
+pub mod Complete
+pub mod BoundsBack
+pub mod BoundsOfKept
+pub mod Samples
+pub mod points
+pub mod sheet
+pub mod scaling
+pub mod reader
+pub mod capi

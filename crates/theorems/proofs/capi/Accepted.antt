@@ -1,0 +1,158 @@
+-- An answer's number is 0 exactly where it is accepted.
+-- Assumes nothing.
+use mathlib.Core.Path.{_≡_, refl}
+use Prim.Native.Nat.{ℕ}
+use mathlib.Core.Bool.{Bool, true, false}
+use mathlib.Core.Option.{Option, none, some}
+use lib.Dec.{eqb}
+use Rattle.fields.specs.Bytes.{Bytes}
+use Rattle.fields.specs.Checks.{numberOf, then}
+use Rattle.fields.specs.declared.Verdict.{Verdict}
+use Rattle.fields.specs.declared.Verdict.the-variants.{Passes, Fails}
+use Rattle.points.specs.Points as points
+use Rattle.points.specs.Encoding as encoding
+use Rattle.points.specs.declared.Point.{Point}
+use Rattle.lasfile.specs.FileChecks.{fileVerdict}
+use Rattle.reader.specs.Header as header
+use Rattle.reader.specs.declared.header.Header.{Header}
+use Rattle.reader.specs.Steps.{stepChecks, recordIf, stepOf}
+use Rattle.reader.specs.declared.cursor.RecordPlaces.{RecordPlaces}
+use Rattle.reader.specs.declared.cursor.VlrCursor.{VlrCursor}
+use Rattle.reader.specs.OnePoint.{pointChecks, pointIf, pointAtOf}
+use Rattle.sheet.specs.Sheet.{sheetVerdict}
+use Rattle.sheet.specs.KeptAnswers.{keptUnder}
+use Rattle.geokeys.specs.GeoKeys.{directoryChecks, entryChecks, doubleChecks, textChecks, answerIf, either, doubleIn, textIn, inParameters, fromEntry, fromDirectory, lookup, locationOf, payloadAt, entryOf, projectionPlace}
+use Rattle.geokeys.specs.declared.GeoKey.{GeoKey}
+use Rattle.publicpart.specs.Release.{Outcome, numbers, refuseOr, shortOr, accepted, roomOr, release}
+use Rattle.capi.specs.Answers.{releasedNumbers, keptNumbers}
+use Rattle.capi.specs.RecordAnswers.{recordFields, noRecord, recordNumbers, geokeyNumbers}
+use Rattle.capi.specs.PointAnswers.{pointFields, noPoint, pointNumbers, decodedNumbers}
+use Rattle.capi.specs.HeaderAnswers.{headerFields, noHeader, headerNumbers}
+use Rattle.capi.specs.Interface.{lasCheckFile, lasCheckSheet, lasReadHeader, lasVlrStep, lasPointAt, lasDecode, lasEncode, lasClassKept, lasRecordKept, lasGeokeyFind, lasRelease}
+use Rattle.theorems.specs.Accepted.{passes, hasFields, hasRecord, hasPoint, isDecoded, isFound, isReleased, isZero, ZeroWhereAccepted}
+use Rattle.theorems.proofs.capi.NumberLaws.{Numbered, AboveZero, first-numbered, then-numbered, file-numbered, sheet-numbered}
+
+-- ---- an answer that a verdict decides
+
+header-if : (v : Verdict) (h : Header) → Numbered v → isZero (headerNumbers (header.fieldsIf v h) .number) ≡ hasFields (header.fieldsIf v h)
+unfolding header.fieldsIf headerNumbers headerFields noHeader hasFields Numbered passes numberOf isZero
+header-if Passes h e = refl
+header-if (Fails n) h e = e
+
+record-if : (v : Verdict) (r : RecordPlaces) (next : VlrCursor) → Numbered v → isZero (recordNumbers (recordIf v r next) .number) ≡ hasRecord (recordIf v r next)
+unfolding recordIf recordNumbers recordFields noRecord hasRecord Numbered passes numberOf isZero
+record-if Passes r next e = refl
+record-if (Fails n) r next e = e
+
+point-if : (v : Verdict) (at : ℕ) (p : Point) → Numbered v → isZero (pointNumbers (pointIf v at p) .number) ≡ hasPoint (pointIf v at p)
+unfolding pointIf pointNumbers pointFields noPoint hasPoint Numbered passes numberOf isZero
+point-if Passes at p e = refl
+point-if (Fails n) at p e = e
+
+decoded-if : (v : Verdict) (p : Point) → Numbered v → isZero (decodedNumbers (points.fieldsIf v p) .number) ≡ isDecoded (points.fieldsIf v p)
+unfolding points.fieldsIf decodedNumbers pointFields noPoint isDecoded Numbered passes numberOf isZero
+decoded-if Passes p e = refl
+decoded-if (Fails n) p e = e
+
+stored-if : (v : Verdict) (b room : Bytes) → Numbered v → Numbered (encoding.storedIf v b room .0)
+unfolding encoding.storedIf
+stored-if Passes b room e = e
+stored-if (Fails n) b room e = e
+
+kept-if : (v : Verdict) (kept : Bool) → Numbered v → isZero (keptNumbers (keptUnder v kept) .number) ≡ passes v
+unfolding keptUnder keptNumbers Numbered passes numberOf isZero
+kept-if Passes true e = refl
+kept-if Passes false e = refl
+kept-if (Fails n) kept e = e
+
+-- ---- a lookup
+
+NumberedKey : GeoKey → Type 0
+NumberedKey g = isZero (geokeyNumbers g .number) ≡ isFound g
+
+answer-if : (v : Verdict) (g : GeoKey) → Numbered v → NumberedKey g → NumberedKey (answerIf v g)
+unfolding NumberedKey answerIf geokeyNumbers isFound Numbered passes numberOf
+answer-if Passes g e h = h
+answer-if (Fails n) g e h = e
+
+either-of : (b : Bool) (g h : GeoKey) → NumberedKey g → NumberedKey h → NumberedKey (either b g h)
+unfolding either
+either-of true g h eg eh = eg
+either-of false g h eg eh = eh
+
+double-in : (entry parameters : Bytes) → NumberedKey (doubleIn entry parameters)
+unfolding doubleIn NumberedKey geokeyNumbers isFound isZero AboveZero
+double-in entry parameters = answer-if _ _ (first-numbered (doubleChecks entry parameters) (refl, tt)) refl
+
+text-in : (entry : Bytes) (at : ℕ) (parameters : Bytes) → NumberedKey (textIn entry at parameters)
+unfolding textIn NumberedKey geokeyNumbers isFound isZero AboveZero
+text-in entry at parameters = answer-if _ _ (first-numbered (textChecks entry parameters) (refl, tt)) refl
+
+in-parameters : (s entry : Bytes) (at : Option ℕ) → NumberedKey (inParameters s entry at)
+unfolding inParameters NumberedKey geokeyNumbers isFound isZero
+in-parameters s entry none = refl
+in-parameters s entry (some at) =
+    either-of (eqb (locationOf entry) 34736) _ _ (double-in entry (payloadAt s at)) (text-in entry at (payloadAt s at))
+
+from-entry : (s : Bytes) (entry : Option Bytes) → NumberedKey (fromEntry s entry)
+unfolding fromEntry NumberedKey geokeyNumbers isFound isZero AboveZero
+from-entry s none = refl
+from-entry s (some entry) =
+    answer-if _ _ (first-numbered (entryChecks entry) (refl, (refl, tt)))
+    (either-of (eqb (locationOf entry) 0) _ _ refl (in-parameters s entry (projectionPlace s (locationOf entry))))
+
+from-directory : (s : Bytes) (k : ℕ) (at : Option ℕ) → NumberedKey (fromDirectory s k at)
+unfolding fromDirectory NumberedKey geokeyNumbers isFound isZero AboveZero
+from-directory s k none = refl
+from-directory s k (some at) =
+    answer-if _ _ (first-numbered (directoryChecks (payloadAt s at)) (refl, tt)) (from-entry s (entryOf (payloadAt s at) k))
+
+found : (s : Bytes) (k : ℕ) → NumberedKey (lookup s k)
+unfolding lookup
+found s k = answer-if (fileVerdict s) _ (file-numbered s) (from-directory s k (projectionPlace s 34735))
+
+-- ---- a release
+
+NumberedOutcome : Outcome → Type 0
+NumberedOutcome o = isZero (releasedNumbers (o .0) .number) ≡ isReleased (o .0)
+
+refuse-or : (v : Verdict) (out : Bytes) (later : Outcome) → Numbered v → NumberedOutcome later → NumberedOutcome (refuseOr v out later)
+unfolding NumberedOutcome refuseOr releasedNumbers numbers isReleased Numbered passes numberOf
+refuse-or Passes out later e h = h
+refuse-or (Fails n) out later e h = e
+
+short-or : (b : Bool) (n : ℕ) (out : Bytes) (later : Outcome) → NumberedOutcome later → NumberedOutcome (shortOr b n out later)
+unfolding NumberedOutcome shortOr releasedNumbers numbers isReleased isZero
+short-or true n out later h = refl
+short-or false n out later h = h
+
+released : (sheet s out : Bytes) → NumberedOutcome (release sheet s out)
+unfolding release roomOr accepted NumberedOutcome releasedNumbers numbers isReleased isZero
+released sheet s out =
+    refuse-or (then (fileVerdict s) (sheetVerdict sheet)) out _
+    (then-numbered (fileVerdict s) (sheetVerdict sheet) (file-numbered s) (sheet-numbered sheet))
+    (short-or _ _ out _ refl)
+
+-- ---- all of them
+
+pub zero-where-accepted : ZeroWhereAccepted
+unfolding lasCheckFile lasCheckSheet lasReadHeader lasVlrStep lasPointAt lasDecode lasEncode lasClassKept lasRecordKept lasGeokeyFind lasRelease
+    header.headerRead stepOf pointAtOf points.decoded encoding.encoded points.decodeChecks encoding.encodeChecks Numbered NumberedKey NumberedOutcome AboveZero isZero
+zero-where-accepted =
+    record {
+      check-file = file-numbered;
+      check-sheet = sheet-numbered;
+      read-header = λ file. header-if (fileVerdict file) _ (file-numbered file);
+      vlr-step =
+          λ file index position.
+          record-if _ _ _ (then-numbered (fileVerdict file) _ (file-numbered file) (first-numbered (stepChecks file index position) (refl, tt)));
+      point-at =
+          λ file index.
+          point-if _ _ _ (then-numbered (fileVerdict file) _ (file-numbered file) (first-numbered (pointChecks file index) (refl, tt)));
+      decode = λ format len bytes. decoded-if _ _ (first-numbered (points.decodeChecks format len bytes) (refl, tt));
+      encode = λ format len p room. stored-if _ _ room (first-numbered (encoding.encodeChecks format len _ room) (refl, (refl, tt)));
+      class-kept = λ sheet class. kept-if (sheetVerdict sheet) _ (sheet-numbered sheet);
+      record-kept = λ sheet user id. kept-if (sheetVerdict sheet) _ (sheet-numbered sheet);
+      geokey-find = found;
+      release = λ file sheet out. released sheet file out;
+    }

@@ -1,0 +1,138 @@
+-- The fields of the bytes that a point was written as are the point's, those that the format lacks at 0.
+-- Assumes nothing.
+use mathlib.Core.Path.{_≡_, refl, sym, ap, _∙_}
+use Prim.Native.Nat.{ℕ, _+_, _^_, _≤_, _<_}
+use native.Mathlib.Omega.{arith}
+use mathlib.Core.Bool.{Bool, true, false}
+use mathlib.Core.List.{List, [], _∷_, _++_, append-assoc}
+use lib.IntN.{ℤ}
+use lib.ListN.{length, getD, length-append}
+use lib.Dec.{eqb}
+use mir.Syntax.{Width, w8, w32}
+use mir.Val.{SFits, toZ, ofZ}
+use mir.ValLaws.{ofZ-fits, toZ-ofZ}
+use Rattle.fields.specs.Bytes.{Bytes, part, num, bytesOf, join, start, Fit}
+use Rattle.fields.proofs.ByteLaws.{num-bytesOf, length-bytesOf, num-part-one, part-behind, field-back}
+use Rattle.points.specs.declared.formats.Place.{Place}
+use Rattle.points.specs.declared.formats.Place.the-variants.{At, Absent}
+use Rattle.points.specs.Formats.{timePlace, colourPlace}
+use Rattle.points.proofs.formats.FormatLaws.{Follows, widthIf, layered}
+use Rattle.points.specs.declared.Point.{Point}
+use Rattle.points.specs.Points.{bits, numberAt, pointOf, bit}
+use Rattle.points.specs.Shared.{flagByte, sharedFields}
+use Rattle.points.specs.Encoding.{ifPlaced, timeFields, colours, colourFields, valueIf, blank, InRange}
+use Rattle.points.proofs.encoding.LayoutLaws.{sharedWidths, shared-fit, length-shared, length-time}
+
+-- a number among fields that were written one behind another
+among : (ws : List ℕ) (fs : List Bytes) (rest : Bytes) (i n : ℕ) → Fit ws fs → i < length ws → getD fs i [] ≡ bytesOf (getD ws i 0) n
+    → n < 256 ^ getD ws i 0 → num (part (start i ws) (getD ws i 0) (join fs ++ rest)) ≡ n
+among ws fs rest i n fit h e small = ap num (field-back ws fs rest i fit h ∙ e) ∙ num-bytesOf (getD ws i 0) n small
+
+-- the same at a place, over the place: GPS time and colour
+placed-among : (place : Place) (k : ℕ) (x : Bytes) (ws : List ℕ) (fs : List Bytes) (rest : Bytes) (i n : ℕ) → Follows place k → length x ≡ k → Fit ws fs
+    → i < length ws → getD fs i [] ≡ bytesOf (getD ws i 0) n → n < 256 ^ getD ws i 0
+    → numberAt (getD ws i 0) place (start i ws) (x ++ (join (ifPlaced place fs) ++ rest)) ≡ valueIf place n
+unfolding numberAt valueIf ifPlaced
+placed-among Absent k x ws fs rest i n follows wide fit h e small = refl
+placed-among (At at) k x ws fs rest i n follows wide fit h e small =
+    rw (follows, part-behind k (start i ws) (getD ws i 0) x (join fs ++ rest) wide) (among ws fs rest i n fit h e small)
+
+-- ---- the byte at 14
+
+one-bit : (b : Bool) → bit b ≤ 1
+unfolding bit
+one-bit true = omega arith
+one-bit false = omega arith
+
+flag-back : (b : Bool) (n : ℕ) → n ≡ bit b → eqb n 1 ≡ b
+unfolding bit
+flag-back true n e = rw e
+flag-back false n e = rw e
+
+module _ (q : Point) (number : q .«return_number» ≤ 7) (returns : q .returns ≤ 7) where
+  flags-small : flagByte q < 256
+  unfolding flagByte
+  flags-small = omega (arith, one-bit (q .«scan_direction»), one-bit (q .edge))
+
+  number-bits : bits 0 3 (flagByte q) ≡ q .«return_number»
+  unfolding flagByte bits
+  number-bits = omega (arith, one-bit (q .«scan_direction»), one-bit (q .edge))
+
+  returns-bits : bits 3 3 (flagByte q) ≡ q .returns
+  unfolding flagByte bits
+  returns-bits = omega (arith, one-bit (q .«scan_direction»), one-bit (q .edge))
+
+  direction-bit : bits 6 1 (flagByte q) ≡ bit (q .«scan_direction»)
+  unfolding flagByte bits
+  direction-bit = omega (arith, one-bit (q .«scan_direction»), one-bit (q .edge))
+
+  edge-bit : bits 7 1 (flagByte q) ≡ bit (q .edge)
+  unfolding flagByte bits
+  edge-bit = omega (arith, one-bit (q .«scan_direction»), one-bit (q .edge))
+
+-- ---- the whole point
+
+module _ (q : Point) (rest : Bytes) where
+  abbrev written : Bytes
+  written = join (sharedFields q) ++ rest
+
+  number : (i n : ℕ) → i < 9 → getD (sharedFields q) i [] ≡ bytesOf (getD sharedWidths i 0) n → n < 256 ^ getD sharedWidths i 0
+      → num (part (start i sharedWidths) (getD sharedWidths i 0) written) ≡ n
+  number i n h e small = among sharedWidths (sharedFields q) rest i n (shared-fit q) h e small
+
+  axis : (i : ℕ) (z : ℤ) → SFits w32 z → i < 9 → getD (sharedFields q) i [] ≡ bytesOf (getD sharedWidths i 0) (ofZ w32 z)
+      → ofZ w32 z < 256 ^ getD sharedWidths i 0 → toZ w32 (num (part (start i sharedWidths) (getD sharedWidths i 0) written)) ≡ z
+  axis i z f h e small = ap (toZ w32) (number i (ofZ w32 z) h e small) ∙ toZ-ofZ w32 z f
+
+pub fields-back : (f : ℕ) (q : Point) (rest : Bytes) → InRange q → q .«return_number» ≤ 7 → q .returns ≤ 7
+    → pointOf f (join (sharedFields q) ++ (join (timeFields (timePlace f) q) ++ (join (colourFields (colourPlace f) q) ++ rest))) ≡ blank f q
+unfolding pointOf blank sharedFields timeFields colourFields colours
+fields-back f q rest r small few =
+    let t = timePlace f in
+    let k = colourPlace f in
+    let time = join (timeFields t q) in
+    let colour = join (colourFields k q) in
+    let shared = join (sharedFields q) in
+    let s = shared ++ (time ++ (colour ++ rest)) in
+    let tail = time ++ (colour ++ rest) in
+    let x : toZ w32 (num (part 0 4 s)) ≡ q .x = axis q tail 0 (q .x) (r .x) (omega arith) refl (ofZ-fits w32 (q .x) (r .x) .fits) in
+    let y : toZ w32 (num (part 4 4 s)) ≡ q .y = axis q tail 1 (q .y) (r .y) (omega arith) refl (ofZ-fits w32 (q .y) (r .y) .fits) in
+    let z : toZ w32 (num (part 8 4 s)) ≡ q .z = axis q tail 2 (q .z) (r .z) (omega arith) refl (ofZ-fits w32 (q .z) (r .z) .fits) in
+    let intensity : num (part 12 2 s) ≡ q .intensity = number q tail 3 (q .intensity) (omega arith) refl (r .intensity) in
+    let flags : getD s 14 0 ≡ flagByte q = sym (num-part-one 14 s) ∙ number q tail 4 (flagByte q) (omega arith) refl (flags-small q small few) in
+    let class : getD s 15 0 ≡ q .«class_byte» = sym (num-part-one 15 s) ∙ number q tail 5 (q .«class_byte») (omega arith) refl (r .class-byte) in
+    let angle : toZ w8 (getD s 16 0) ≡ q .«scan_angle» =
+    ap (toZ w8) (sym (num-part-one 16 s) ∙ number q tail 6 (ofZ w8 (q .«scan_angle»)) (omega arith) refl (ofZ-fits w8 (q .«scan_angle») (r .scan-angle) .fits))
+    ∙ toZ-ofZ w8 (q .«scan_angle») (r .scan-angle) in
+    let user : getD s 17 0 ≡ q .«user_data» = sym (num-part-one 17 s) ∙ number q tail 7 (q .«user_data») (omega arith) refl (r .user-data) in
+    let source : num (part 18 2 s) ≡ q .«source_id» = number q tail 8 (q .«source_id») (omega arith) refl (r .source-id) in
+    let gps : numberAt 8 t 0 s ≡ valueIf t (q .«gps_time») =
+    placed-among t 20 shared (8 ∷ []) _ (colour ++ rest) 0 (q .«gps_time») (layered f .time) (length-shared q) (length-bytesOf 8 _, tt) (omega arith) refl (r .gps-time) in
+    let front : s ≡ (shared ++ time) ++ (colour ++ rest) = sym (append-assoc shared time (colour ++ rest)) in
+    let wide : length (shared ++ time) ≡ 20 + widthIf t 8 = length-append shared time ∙ rw (length-shared q, length-time t q) in
+    let fit : Fit (2 ∷ 2 ∷ 2 ∷ []) (bytesOf 2 (q .red) ∷ bytesOf 2 (q .green) ∷ bytesOf 2 (q .blue) ∷ []) = (length-bytesOf 2 _, (length-bytesOf 2 _, (length-bytesOf 2 _, tt))) in
+    let red : numberAt 2 k 0 s ≡ valueIf k (q .red) =
+    rw front (placed-among k (20 + widthIf t 8) (shared ++ time) (2 ∷ 2 ∷ 2 ∷ []) _ rest 0 (q .red) (layered f .colour) wide fit (omega arith) refl (r .red)) in
+    let green : numberAt 2 k 2 s ≡ valueIf k (q .green) =
+    rw front (placed-among k (20 + widthIf t 8) (shared ++ time) (2 ∷ 2 ∷ 2 ∷ []) _ rest 1 (q .green) (layered f .colour) wide fit (omega arith) refl (r .green)) in
+    let blue : numberAt 2 k 4 s ≡ valueIf k (q .blue) =
+    rw front (placed-among k (20 + widthIf t 8) (shared ++ time) (2 ∷ 2 ∷ 2 ∷ []) _ rest 2 (q .blue) (layered f .colour) wide fit (omega arith) refl (r .blue)) in
+    λ i.
+    record {
+      x = x i;
+      y = y i;
+      z = z i;
+      intensity = intensity i;
+      «return_number» = (ap (bits 0 3) flags ∙ number-bits q small few) i;
+      returns = (ap (bits 3 3) flags ∙ returns-bits q small few) i;
+      «scan_direction» = (ap (λ (b : ℕ). eqb (bits 6 1 b) 1) flags ∙ flag-back _ _ (direction-bit q small few)) i;
+      edge = (ap (λ (b : ℕ). eqb (bits 7 1 b) 1) flags ∙ flag-back _ _ (edge-bit q small few)) i;
+      «class_byte» = class i;
+      «scan_angle» = angle i;
+      «user_data» = user i;
+      «source_id» = source i;
+      «gps_time» = gps i;
+      red = red i;
+      green = green i;
+      blue = blue i;
+    }

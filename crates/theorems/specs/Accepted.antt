@@ -1,0 +1,85 @@
+-- An answer's number is 0 exactly where it is accepted.
+-- Assumes nothing.
+use mathlib.Core.Path.{_≡_}
+use Prim.Native.Nat.{ℕ}
+use mathlib.Core.Bool.{Bool, true, false}
+use lib.Dec.{eqb}
+use Rattle.fields.specs.Bytes.{Bytes}
+use Rattle.fields.specs.declared.Verdict.{Verdict}
+use Rattle.fields.specs.declared.Verdict.the-variants as verdict
+use Rattle.points.specs.Points.{decoded}
+use Rattle.points.specs.Encoding.{encoded}
+use Rattle.points.specs.declared.Decoded.{Decoded}
+use Rattle.points.specs.declared.Decoded.the-variants as point
+use Rattle.lasfile.specs.FileChecks.{fileVerdict}
+use Rattle.reader.specs.Header.{headerRead}
+use Rattle.reader.specs.declared.header.HeaderRead.{HeaderRead}
+use Rattle.reader.specs.declared.header.HeaderRead.the-variants as header
+use Rattle.reader.specs.Steps.{stepOf}
+use Rattle.reader.specs.declared.cursor.Step.{Step}
+use Rattle.reader.specs.declared.cursor.Step.the-variants as step
+use Rattle.reader.specs.OnePoint.{pointAtOf}
+use Rattle.reader.specs.declared.point.PointAt.{PointAt}
+use Rattle.reader.specs.declared.point.PointAt.the-variants as place
+use Rattle.sheet.specs.Sheet.{sheetVerdict}
+use Rattle.geokeys.specs.GeoKeys.{lookup}
+use Rattle.geokeys.specs.declared.GeoKey.{GeoKey}
+use Rattle.geokeys.specs.declared.GeoKey.the-variants as key
+use Rattle.publicpart.specs.Release.{release}
+use Rattle.publicpart.specs.declared.Answer.{Answer}
+use Rattle.publicpart.specs.declared.Answer.the-variants as answer
+use Rattle.capi.specs.PointAnswers.{givenPoint}
+use Rattle.capi.specs.declared.point.«las_point».{«las_point»}
+use Rattle.capi.specs.Interface.{lasCheckFile, lasCheckSheet, lasReadHeader, lasVlrStep, lasPointAt, lasDecode, lasEncode, lasClassKept, lasRecordKept, lasGeokeyFind, lasRelease}
+
+-- ---- which answers are accepted
+
+unfoldable pub passes : Verdict → Bool
+passes verdict.Passes = true
+passes (verdict.Fails n) = false
+
+unfoldable pub hasFields : HeaderRead → Bool
+hasFields (header.Fields h) = true
+hasFields (header.Refused n) = false
+
+unfoldable pub hasRecord : Step → Bool
+hasRecord (step.Record r next) = true
+hasRecord (step.Refused n) = false
+
+unfoldable pub hasPoint : PointAt → Bool
+hasPoint (place.At at p) = true
+hasPoint (place.Refused n) = false
+
+unfoldable pub isDecoded : Decoded → Bool
+isDecoded (point.Fields p) = true
+isDecoded (point.Refused n) = false
+
+unfoldable pub isFound : GeoKey → Bool
+isFound (key.Value v) = true
+isFound (key.Double bits) = true
+isFound (key.Text at n) = true
+isFound (key.Refused n) = false
+
+unfoldable pub isReleased : Answer → Bool
+isReleased (answer.Released n p r) = true
+isReleased (answer.Short n) = false
+isReleased (answer.Refused n) = false
+
+-- ---- number by number
+
+unfoldable pub isZero : ℕ → Bool
+isZero n = eqb n 0
+
+pub record ZeroWhereAccepted : Type 0 where
+  pub check-file : (file : Bytes) → isZero (lasCheckFile file) ≡ passes (fileVerdict file)
+  pub check-sheet : (sheet : Bytes) → isZero (lasCheckSheet sheet) ≡ passes (sheetVerdict sheet)
+  pub read-header : (file : Bytes) → isZero (lasReadHeader file .number) ≡ hasFields (headerRead file)
+  pub vlr-step : (file : Bytes) (index position : ℕ) → isZero (lasVlrStep file index position .number) ≡ hasRecord (stepOf file index position)
+  pub point-at : (file : Bytes) (index : ℕ) → isZero (lasPointAt file index .number) ≡ hasPoint (pointAtOf file index)
+  pub decode : (format len : ℕ) (bytes : Bytes) → isZero (lasDecode format len bytes .number) ≡ isDecoded (decoded format len bytes)
+  pub encode : (format len : ℕ) (p : «las_point») (room : Bytes)
+      → isZero (lasEncode format len p room .0) ≡ passes (encoded format len (givenPoint p) room .0)
+  pub class-kept : (sheet : Bytes) (class : ℕ) → isZero (lasClassKept sheet class .number) ≡ passes (sheetVerdict sheet)
+  pub record-kept : (sheet user : Bytes) (id : ℕ) → isZero (lasRecordKept sheet user id .number) ≡ passes (sheetVerdict sheet)
+  pub geokey-find : (file : Bytes) (k : ℕ) → isZero (lasGeokeyFind file k .number) ≡ isFound (lookup file k)
+  pub release : (file sheet out : Bytes) → isZero (lasRelease file sheet out .0 .number) ≡ isReleased (release sheet file out .0)

@@ -1,0 +1,70 @@
+-- The bounds and bins of a released file are those of the kept points.
+-- Assumes nothing.
+use mathlib.Core.Path.{_≡_}
+use Prim.Native.Nat.{ℕ, _+_, _*_, _≤_}
+use mathlib.Core.List.{List, [], _∷_, List·Memᴰ}
+use lib.Dec.{T, eqb}
+use lib.ListN.{length}
+use lib.Ieee.{Float, le}
+use Rattle.fields.specs.Lists.{All, kept, total}
+use Rattle.fields.specs.Bytes.{Bytes, part, num, zeros}
+use Rattle.scaling.specs.Coordinate.{coordinateOf}
+use Rattle.scaling.specs.Scaling.{doubleAt, scalingOf}
+use Rattle.theorems.specs.Axes.{Axis, X, Y, Z, scaleOf, offsetOf}
+use Rattle.lasfile.specs.HeaderFields.{format}
+use Rattle.publicpart.specs.Bounds.{returnOf, stored}
+use Rattle.theorems.specs.Complete.{keptPoints}
+use Rattle.theorems.specs.Terms.{Accepted, OfOutput}
+
+-- ---- bounds, over the axis
+
+unfoldable pub axisNumber : Axis → ℕ
+axisNumber X = 0
+axisNumber Y = 1
+axisNumber Z = 2
+
+-- a file's bounds: max X, min X, max Y, min Y, max Z, min Z from 179 on
+unfoldable pub maxOf : Bytes → Axis → Float
+maxOf s axis = doubleAt s (179 + 16 * axisNumber axis)
+
+unfoldable pub minOf : Bytes → Axis → Float
+minOf s axis = doubleAt s (187 + 16 * axisNumber axis)
+
+-- the coordinate of a point of the file f
+unfoldable pub coordinateAt : Bytes → Axis → Bytes → Float
+coordinateAt f axis p = coordinateOf (stored (axisNumber axis) p) (scaleOf axis (scalingOf f)) (offsetOf axis (scalingOf f))
+
+-- a bound is the coordinate of some point
+pub record OfPoint (f : Bytes) (axis : Axis) (points : List Bytes) (bound : Float) : Type 0 where
+  pub point : Bytes
+  pub among : List·Memᴰ point points
+  pub is : bound ≡ coordinateAt f axis point
+
+-- and every point's coordinate is from the one bound to the other
+pub record Bounded (f out : Bytes) (points : List Bytes) (axis : Axis) : Type 0 where
+  pub max : OfPoint f axis points (maxOf out axis)
+  pub min : OfPoint f axis points (minOf out axis)
+  pub between : All (λ p. T (le (minOf out axis) (coordinateAt f axis p)) × T (le (coordinateAt f axis p) (maxOf out axis))) points
+
+-- ---- bins
+
+-- a file's count of return number r, from 1 to 5
+unfoldable pub binOf : Bytes → ℕ → ℕ
+binOf s r = num (part (107 + 4 * r) 4 s)
+
+-- the points are of the file f's format
+pub record Binned (f out : Bytes) (points : List Bytes) : Type 0 where
+  pub each : (r : ℕ) → 1 ≤ r → r ≤ 5 → binOf out r ≡ length (kept (λ p. eqb (returnOf (format f) p) r) points)
+  pub at-most : total (binOf out) (1 ∷ 2 ∷ 3 ∷ 4 ∷ 5 ∷ []) ≤ length points
+
+-- ---- of the output of an accepted release
+
+pub record BoundsOfKept : Type 0 where
+  pub bounded : (sheet f a : Bytes) (n points records : ℕ) → Accepted sheet f a n points records
+      → 1 ≤ points → (axis : Axis)
+      → OfOutput sheet f a n (λ out. Bounded f out (keptPoints sheet f) axis)
+  -- with no kept points all six are +0.0
+  pub no-points : (sheet f a : Bytes) (n points records : ℕ) → Accepted sheet f a n points records
+      → points ≡ 0 → OfOutput sheet f a n (λ out. part 179 48 out ≡ zeros 48)
+  pub binned : (sheet f a : Bytes) (n points records : ℕ) → Accepted sheet f a n points records
+      → OfOutput sheet f a n (λ out. Binned f out (keptPoints sheet f))

@@ -1,0 +1,15 @@
+pub mod Terms
+pub mod Demand3
+pub mod NeverLonger
+pub mod Complete
+pub mod BoundsOfKept
+pub mod Samples
+pub mod RoundTrips
+pub mod Lines
+pub mod Kept
+pub mod WholeNumbers
+pub mod Axes
+pub mod Statements
+pub mod Visits
+pub mod Accepted
+pub mod OwnBits

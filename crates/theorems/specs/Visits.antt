@@ -1,0 +1,32 @@
+-- What is proved of stepping: from (0, header size) it visits exactly the records of the definition, in order, and then gives 18.
+-- Assumes nothing.
+use mathlib.Core.Path.{_≡_}
+use Prim.Native.Nat.{ℕ, suc, _+_}
+use mathlib.Core.List.{map}
+use Rattle.fields.specs.Bytes.{Bytes, part}
+use Rattle.fields.specs.declared.Verdict.the-variants.{Passes}
+use Rattle.lasfile.specs.Records.{recordAt, places}
+use Rattle.lasfile.specs.HeaderFields.{headerSize, recordCount}
+use Rattle.lasfile.specs.FileChecks.{fileVerdict}
+use Rattle.reader.specs.Steps.{recordPlaces, stepOf, visited}
+use Rattle.reader.specs.declared.cursor.RecordPlaces.{RecordPlaces}
+use Rattle.reader.specs.declared.cursor.VlrCursor.{VlrCursor}
+use Rattle.reader.specs.declared.cursor.Step.the-variants.{Refused}
+
+abbrev pub cursor : ℕ → ℕ → VlrCursor
+cursor index position = record { index = index; position = position }
+
+-- what a record's places mean: its parts are the record's own
+pub record Means (s : Bytes) (at : ℕ) (r : RecordPlaces) : Type 0 where
+  pub user : part (r .«user_place») (r .«user_length») s ≡ recordAt 2 s at .user
+  pub id : r .«record_id» ≡ recordAt 2 s at .id
+  pub description : part (r .«description_place») (r .«description_length») s ≡ recordAt 2 s at .description
+  pub payload : part (r .«payload_place») (r .«payload_length») s ≡ recordAt 2 s at .payload
+
+pub record Visits : Type 0 where
+  -- with at least one step more than there are records
+  pub visits : (s : Bytes) → fileVerdict s ≡ Passes → (m : ℕ)
+      → visited (recordCount s + suc m) s (cursor 0 (headerSize s)) ≡ map (recordPlaces s) (places 2 (recordCount s) (headerSize s) s)
+  -- where no record is left, a step gives 18
+  pub ends-in-18 : (s : Bytes) → fileVerdict s ≡ Passes → (position : ℕ) → stepOf s (recordCount s) position ≡ Refused 18
+  pub places-mean : (s : Bytes) (at : ℕ) → Means s at (recordPlaces s at)
