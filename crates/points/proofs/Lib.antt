@@ -1,3 +1,2 @@
 mod FieldLaws
 pub mod AnswerLaws
-pub mod Samples
