@@ -1,21 +1,17 @@
 -- Answers of the library as the numbers that another language is given. On a refusal every field but `number` is 0; 30 also has the needed length.
 -- Assumes nothing.
 use Rattle.publicpart.specs.declared.Answer.{Answer}
-use Rattle.publicpart.specs.Release.{numbers}
+use Rattle.publicpart.specs.declared.Answer.the-variants as answer
 use Rattle.sheet.specs.declared.answers.Kept.{Kept}
 use Rattle.sheet.specs.declared.answers.Kept.the-variants.{Yes, No, Refused}
 use Rattle.capi.specs.declared.answers.«las_released».{«las_released»}
 use Rattle.capi.specs.declared.answers.«las_kept».{«las_kept»}
 
--- document 01's four numbers
+-- the four numbers of a release: 0, file length, kept points, kept records
 unfoldable pub releasedNumbers : Answer → «las_released»
-releasedNumbers a =
-    record {
-      number = numbers a .code;
-      length = numbers a .fileLength;
-      points = numbers a .points;
-      records = numbers a .records;
-    }
+releasedNumbers (answer.Released n points records) = record { number = 0; length = n; points = points; records = records }
+releasedNumbers (answer.Short needed) = record { number = 30; length = needed; points = 0; records = 0 }
+releasedNumbers (answer.Refused n) = record { number = n; length = 0; points = 0; records = 0 }
 
 unfoldable pub keptNumbers : Kept → «las_kept»
 keptNumbers Yes = record { number = 0; kept = 1 }

@@ -5,7 +5,7 @@ use mathlib.Core.List.{List, [], _∷_}
 use lib.Ieee.{binary64, toBits}
 use Rattle.fields.specs.Bytes.{zeros}
 use Rattle.scaling.specs.declared.Scaling.{Scaling}
-use Rattle.scaling.specs.declared.Bounds.{Bounds}
+use Rattle.publicpart.specs.Bounds.{boundNumbers}
 use Rattle.reader.specs.declared.header.ByReturn.{ByReturn}
 use Rattle.reader.specs.declared.header.Header.{Header}
 use Rattle.reader.specs.declared.header.HeaderRead.{HeaderRead}
@@ -21,10 +21,6 @@ scaleNumbers s = toBits binary64 (s .«x_scale») ∷ toBits binary64 (s .«y_sc
 
 unfoldable pub offsetNumbers : Scaling → List ℕ
 offsetNumbers s = toBits binary64 (s .«x_offset») ∷ toBits binary64 (s .«y_offset») ∷ toBits binary64 (s .«z_offset») ∷ []
-
--- max before min
-unfoldable pub boundNumbers : Bounds → List ℕ
-boundNumbers b = b .«max_x» ∷ b .«min_x» ∷ b .«max_y» ∷ b .«min_y» ∷ b .«max_z» ∷ b .«min_z» ∷ []
 
 unfoldable pub headerFields : Header → «las_header»
 headerFields h =

@@ -1,6 +1,7 @@
 // A header as a struct of numbers with C's layout.
 ghost use mathlib.Core.Path.{_≡_};
-ghost use Rattle.capi.specs.HeaderAnswers.{byReturnNumbers, scaleNumbers, offsetNumbers, boundNumbers, noHeader, headerFields, headerNumbers};
+ghost use Rattle.publicpart.specs.Bounds.{boundNumbers};
+ghost use Rattle.capi.specs.HeaderAnswers.{byReturnNumbers, scaleNumbers, offsetNumbers, noHeader, headerFields, headerNumbers};
 use reader::header;
 use scaling::doubles::bits_of;
 

@@ -124,10 +124,3 @@ fromDirectory s key (some at) =
 -- a lookup checks the file, then 40 to 46
 unfoldable pub lookup : Bytes → ℕ → GeoKey
 lookup s key = answerIf (fileVerdict s) (fromDirectory s key (projectionPlace s 34735))
-
--- document 01's four numbers: 0, the location and two numbers, or a refusal and zeros
-unfoldable pub numbers : GeoKey → List ℕ
-numbers (Value v) = 0 ∷ 0 ∷ v ∷ 0 ∷ []
-numbers (Double bits) = 0 ∷ 34736 ∷ bits ∷ 0 ∷ []
-numbers (Text at n) = 0 ∷ 34737 ∷ at ∷ n ∷ []
-numbers (Refused n) = n ∷ 0 ∷ 0 ∷ 0 ∷ []

@@ -6,18 +6,19 @@ use native.Mathlib.Nat.{mul-le-mul}
 use native.Mathlib.Omega.{arith}
 use Rattle.fields.specs.Bytes.{Bytes}
 use Rattle.fields.specs.Checks.{AllClear}
+use Rattle.fields.specs.declared.Verdict.the-variants.{Passes}
 use Rattle.fields.proofs.CheckLaws.{none-fails, all-clear}
 use Rattle.lasfile.specs.HeaderFields.{headerSize, recordCount}
 use Rattle.lasfile.specs.Records.{walkEnd}
 use Rattle.lasfile.specs.FileChecks.{recordsEnd, fileChecks, fileVerdict}
-use Rattle.lasfile.specs.Passed.{PassingTells, FactsPass}
+use Rattle.lasfile.specs.Passed.{Passed}
 
 -- the place after the counted records, by the walk
 pub records-end : (s : Bytes) → recordsEnd s ≡ walkEnd 2 (recordCount s) (headerSize s) s
 unfolding recordsEnd
 records-end s = refl
 
-pub passed : PassingTells
+pub passed : (s : Bytes) → fileVerdict s ≡ Passes → Passed s
 unfolding fileVerdict
 passed s e =
     let h : AllClear (fileChecks s) = none-fails (fileChecks s) e in
@@ -36,7 +37,7 @@ passed s e =
       scaled = h .1 .1 .1 .1 .1 .1 .1 .1 .1 .0;
     }
 
-pub passes : FactsPass
+pub passes : (s : Bytes) → Passed s → fileVerdict s ≡ Passes
 unfolding fileVerdict
 passes s p =
     all-clear (fileChecks s) (

@@ -5,11 +5,10 @@ use Prim.Native.Nat.{_+_, _*_, _≤_}
 use lib.ListN.{length}
 use lib.Dec.{T}
 use Rattle.fields.specs.Bytes.{Bytes, part}
-use Rattle.fields.specs.declared.Verdict.the-variants.{Passes}
 use Rattle.points.specs.Formats.{formatSize}
 use Rattle.scaling.specs.Scaling.{scalingOf, goodScaling}
 use Rattle.lasfile.specs.HeaderFields.{signature, version, headerBlock, headerSize, pointOffset, format, recordLength, pointCount}
-use Rattle.lasfile.specs.FileChecks.{recordsEnd, fileVerdict}
+use Rattle.lasfile.specs.FileChecks.{recordsEnd}
 
 pub record Passed (s : Bytes) : Type 0 where
   pub whole : headerBlock ≤ length s
@@ -24,11 +23,3 @@ pub record Passed (s : Bytes) : Type 0 where
   pub walked : recordsEnd s ≤ pointOffset s
   pub pointed : pointOffset s + pointCount s * recordLength s ≤ length s
   pub scaled : T (goodScaling (scalingOf s))
-
--- a file that passes is so
-abbrev pub PassingTells : Type 0
-PassingTells = (s : Bytes) → fileVerdict s ≡ Passes → Passed s
-
--- a file that is so passes
-abbrev pub FactsPass : Type 0
-FactsPass = (s : Bytes) → Passed s → fileVerdict s ≡ Passes

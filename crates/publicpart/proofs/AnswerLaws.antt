@@ -16,17 +16,8 @@ use Rattle.lasfile.specs.FileChecks.{fileVerdict}
 use Rattle.sheet.specs.Sheet.{sheetVerdict}
 use Rattle.publicpart.specs.Public.{publicOf}
 use Rattle.publicpart.specs.Render.{render}
-use Rattle.publicpart.specs.Release.{Outcome, numbers, refuseOr, shortOr, accepted, roomOr, release}
+use Rattle.publicpart.specs.Release.{Outcome, refuseOr, shortOr, accepted, roomOr, release}
 use Rattle.publicpart.specs.declared.Answer.the-variants.{Released, Short, Refused}
-
--- the four numbers
-pub numbers-released : (n points records : ℕ) → numbers (Released n points records) ≡ record { code = 0; fileLength = n; points = points; records = records }
-unfolding numbers
-numbers-released n points records = refl
-
-pub numbers-short : (n : ℕ) → numbers (Short n) ≡ record { code = 30; fileLength = n; points = 0; records = 0 }
-unfolding numbers
-numbers-short n = refl
 
 module _ (sheet s out : Bytes) where
   pub refused-by-file : (n : ℕ) → fileVerdict s ≡ Fails n → release sheet s out ≡ (Refused n, out)

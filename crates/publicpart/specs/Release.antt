@@ -16,18 +16,6 @@ use Rattle.publicpart.specs.Render.{render}
 use Rattle.publicpart.specs.declared.Answer.{Answer}
 use Rattle.publicpart.specs.declared.Answer.the-variants.{Released, Short, Refused}
 
--- document 01's four numbers: 0, file length, kept points, kept VLRs; a refusal has zeros beside its number, and 30 the needed length
-pub record Numbers : Type 0 where
-  pub code : ℕ
-  pub fileLength : ℕ
-  pub points : ℕ
-  pub records : ℕ
-
-unfoldable pub numbers : Answer → Numbers
-numbers (Released n p r) = record { code = 0; fileLength = n; points = p; records = r }
-numbers (Short n) = record { code = 30; fileLength = n; points = 0; records = 0 }
-numbers (Refused c) = record { code = c; fileLength = 0; points = 0; records = 0 }
-
 -- an answer, and the output afterwards
 abbrev pub Outcome : Type 0
 Outcome = Answer × Bytes

@@ -16,8 +16,7 @@ use Rattle.fields.specs.Bytes.{Bytes, part}
 use Rattle.scaling.specs.declared.Scaling.{Scaling}
 use Rattle.scaling.specs.Coordinate.{coordinateOf, coordinateBits}
 use Rattle.scaling.specs.Scaling.{doubleAt, scalingOf, goodScaling}
-use Rattle.theorems.specs.Axes.{Axis, X, Y, Z, scaleOf, offsetOf}
-use Rattle.theorems.specs.Statements.{Stored, FiniteInOrder}
+use Rattle.theorems.specs.Coordinates.{Axis, X, Y, Z, axisScale, axisOffset, Fits32, FiniteInOrder}
 use Rattle.theorems.proofs.scaling.CoordinateTheorems.{passing}
 use Rattle.fields.specs.NumberRuns.{numbersBytes}
 use Rattle.fields.proofs.arrays.NumberLaws.{numbers-back}
@@ -46,15 +45,15 @@ axis-small Z = lit≤ tt
 
 module _ (c : Scaling) (q : Bytes) (qs : List Bytes) where
   max-bits : (axis : Axis) → getD (bounds c (q ∷ qs)) (2 * axisNumber axis) 0
-      ≡ coordinateBits (largest (stored (axisNumber axis) q) (map (stored (axisNumber axis)) qs)) (scaleOf axis c) (offsetOf axis c)
-  unfolding axisNumber scaleOf offsetOf
+      ≡ coordinateBits (largest (stored (axisNumber axis) q) (map (stored (axisNumber axis)) qs)) (axisScale axis c) (axisOffset axis c)
+  unfolding axisNumber axisScale axisOffset
   max-bits X = ap (λ (l : List ℕ). getD l 0 0) (bounds-some c q qs)
   max-bits Y = ap (λ (l : List ℕ). getD l 2 0) (bounds-some c q qs)
   max-bits Z = ap (λ (l : List ℕ). getD l 4 0) (bounds-some c q qs)
 
   min-bits : (axis : Axis) → getD (bounds c (q ∷ qs)) (1 + 2 * axisNumber axis) 0
-      ≡ coordinateBits (smallest (stored (axisNumber axis) q) (map (stored (axisNumber axis)) qs)) (scaleOf axis c) (offsetOf axis c)
-  unfolding axisNumber scaleOf offsetOf
+      ≡ coordinateBits (smallest (stored (axisNumber axis) q) (map (stored (axisNumber axis)) qs)) (axisScale axis c) (axisOffset axis c)
+  unfolding axisNumber axisScale axisOffset
   min-bits X = ap (λ (l : List ℕ). getD l 1 0) (bounds-some c q qs)
   min-bits Y = ap (λ (l : List ℕ). getD l 3 0) (bounds-some c q qs)
   min-bits Z = ap (λ (l : List ℕ). getD l 5 0) (bounds-some c q qs)
@@ -81,15 +80,15 @@ module _ (f out : Bytes) (good : T (goodScaling (scalingOf f))) (q : Bytes) (qs 
   lo = smallest (v q) (map v qs)
 
   abbrev at : ℤ → Float
-  at z = coordinateOf z (scaleOf axis c) (offsetOf axis c)
+  at z = coordinateOf z (axisScale axis c) (axisOffset axis c)
 
-  double-back : (i : ℕ) (z : ℤ) → i < 6 → getD (bounds c (q ∷ qs)) i 0 ≡ coordinateBits z (scaleOf axis c) (offsetOf axis c) → doubleAt out (179 + i * 8) ≡ at z
+  double-back : (i : ℕ) (z : ℤ) → i < 6 → getD (bounds c (q ∷ qs)) i 0 ≡ coordinateBits z (axisScale axis c) (axisOffset axis c) → doubleAt out (179 + i * 8) ≡ at z
   unfolding doubleAt
   double-back i z h e =
       let six : length (bounds c (q ∷ qs)) ≡ 6 = length-bounds c (q ∷ qs) in
-      let small : getD (bounds c (q ∷ qs)) i 0 < 256 ^ 8 = rw e (bits-small z (scaleOf axis c) (offsetOf axis c)) in
+      let small : getD (bounds c (q ∷ qs)) i 0 < 256 ^ 8 = rw e (bits-small z (axisScale axis c) (axisOffset axis c)) in
       ap (ofBits binary64) (numbers-back out 179 8 i (bounds c (q ∷ qs)) (rw six are) (rw six h) small ∙ e)
-      ∙ bits-back z (scaleOf axis c) (offsetOf axis c)
+      ∙ bits-back z (axisScale axis c) (axisOffset axis c)
 
   max-is : maxOf out axis ≡ at hi
   unfolding maxOf
@@ -110,8 +109,8 @@ module _ (f out : Bytes) (good : T (goodScaling (scalingOf f))) (q : Bytes) (qs 
       let w = Memᴰ·of-map v (q ∷ qs) m in
       record { point = w .0; among = w .1; is = e ∙ ap at (sym (w .2)) }
 
-  small : (z : ℤ) → List·Memᴰ z (map v (q ∷ qs)) → Stored z
-  unfolding Stored
+  small : (z : ℤ) → List·Memᴰ z (map v (q ∷ qs)) → Fits32 z
+  unfolding Fits32
   small z m =
       let w = Memᴰ·of-map v (q ∷ qs) m in
       subst (λ (y : ℤ). natAbs y ≤ 2 ^ 31) (w .2) (stored-small (axisNumber axis) (w .0))
@@ -125,8 +124,8 @@ module _ (f out : Bytes) (good : T (goodScaling (scalingOf f))) (q : Bytes) (qs 
   within : (p : Bytes) → lo ≤ℤ v p → v p ≤ℤ hi → T (le (minOf out axis) (coordinateAt f axis p)) × T (le (coordinateAt f axis p) (maxOf out axis))
   unfolding coordinateAt
   within p l h =
-      let o : FiniteInOrder (scaleOf axis c) (offsetOf axis c) = passing c good axis in
-      let s : Stored (v p) = unfold Stored in stored-small (axisNumber axis) p in (
+      let o : FiniteInOrder (axisScale axis c) (axisOffset axis c) = passing c good axis in
+      let s : Fits32 (v p) = unfold Fits32 in stored-small (axisNumber axis) p in (
         rw min-is (o .in-order lo (v p) (small lo (bottom .among)) s l),
         rw max-is (o .in-order (v p) hi s (small hi (top .among)) h),
       )

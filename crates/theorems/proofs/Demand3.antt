@@ -8,12 +8,13 @@ use Rattle.fields.specs.declared.Verdict.the-variants.{Passes}
 use Rattle.sheet.specs.Sheet.{sheetVerdict}
 use Rattle.publicpart.specs.Public.{Public, publicOf}
 use Rattle.publicpart.specs.Render.{render}
-use Rattle.publicpart.specs.Release.{Outcome, numbers, release}
+use Rattle.publicpart.specs.Release.{Outcome, release}
+use Rattle.capi.specs.Answers.{releasedNumbers}
 use Rattle.publicpart.specs.declared.Answer.the-variants.{Short}
 use Rattle.theorems.specs.Terms.{Good, needed, Accepted, OfOutput}
-use Rattle.theorems.specs.Demand3.{tooShort, Demand3}
-use Rattle.publicpart.proofs.AnswerLaws.{numbers-short, release-long, release-short}
-use Rattle.theorems.proofs.ReleaseLaws.{released, released-passes, released-public, Known, accepted-output, accepted-means, of-output}
+use Rattle.theorems.specs.Demand3.{tooShort, inLength, Demand3}
+use Rattle.publicpart.proofs.AnswerLaws.{release-long, release-short}
+use Rattle.theorems.proofs.ReleaseLaws.{released-public, Known, accepted-output, accepted-means, of-output, again-at, in-length, own-length}
 
 module _ (sheet : Bytes) (sheetGood : sheetVerdict sheet ≡ Passes) where
   -- outputs that are equal have one public part
@@ -31,23 +32,29 @@ module _ (sheet : Bytes) (sheetGood : sheetVerdict sheet ≡ Passes) where
       ∙ rw (e, same) (sym (release-long sheet g b (goodG .passes) sheetGood roomG))
 
   too-short : (f a : Bytes) → Good f → (n : ℕ) → needed sheet f ≡ n → length a < n
-      → (numbers (release sheet f a .0) ≡ tooShort n) × (release sheet f a .1 ≡ a)
+      → (releasedNumbers (release sheet f a .0) ≡ tooShort n) × (release sheet f a .1 ≡ a)
+  unfolding releasedNumbers
   too-short f a good n e less =
       let r : release sheet f a ≡ (Short (needed sheet f), a) = release-short sheet f a (good .passes) sheetGood (rw e less) in
-      (rw (r, e) (numbers-short n), rw r)
+      (rw (r, e), rw r)
 
-  -- the released file as a file again
-  again-at : (f a b : Bytes) → Good f → needed sheet f ≤ length a → length b ≡ length a → (k : ℕ) → release sheet (released sheet f k) b ≡ release sheet f a
-  again-at f a b g room same k =
-      let e : publicOf sheet (released sheet f k) ≡ publicOf sheet f = released-public sheet f g k in
-      release-long sheet (released sheet f k) b (released-passes sheet f g k) sheetGood (rw (e, same) room)
-      ∙ rw (e, same) (sym (release-long sheet f a (g .passes) sheetGood room))
+-- ---- the released file as a file again
 
-again : (sheet f a b : Bytes) (n q r : ℕ) → Accepted sheet f a n q r → length b ≡ length a → OfOutput sheet f a n (λ file. release sheet file b ≡ release sheet f a)
-again sheet f a b n q r h same =
+again : (sheet f a b : Bytes) (n q r : ℕ) → Accepted sheet f a n q r → n ≤ length b
+    → OfOutput sheet f a n (λ file. release sheet file b ≡ inLength n (length b) (release sheet f a))
+again sheet f a b n q r h room =
     let m : Known sheet f a n q r = accepted-means sheet f a n q r h in
-    of-output sheet f a n q r (λ file. release sheet file b ≡ release sheet f a) m
-    (again-at sheet (m .sheet-passes) f a b (m .good) (m .room) same)
+    of-output sheet f a n q r (λ file. release sheet file b ≡ inLength n (length b) (release sheet f a)) m
+    (λ k. again-at sheet f (m .sheet-passes) (m .good) k b (rw (m .answer .0) room) ∙ sym (in-length sheet f a n q r h (length b)))
+
+again-same : (sheet f a b : Bytes) (n q r : ℕ) → Accepted sheet f a n q r → length b ≡ length a
+    → OfOutput sheet f a n (λ file. release sheet file b ≡ release sheet f a)
+again-same sheet f a b n q r h same =
+    let m : Known sheet f a n q r = accepted-means sheet f a n q r h in
+    let room : n ≤ length b = rw (← m .answer .0, same) (m .room) in
+    let g = again sheet f a b n q r h room in
+    let e : inLength n (length b) (release sheet f a) ≡ release sheet f a = rw same (own-length sheet f a n q r h) in
+    (g .0 ∙ e, g .1 ∙ e)
 
 pub demand3 : Demand3
 demand3 =
@@ -57,7 +64,7 @@ demand3 =
             λ e. public-same sheet sheetGood f g a b goodF goodG roomF roomG (e .1),
             λ e.
                 let r : release sheet f a ≡ release sheet g b = release-same sheet sheetGood f g a b goodF goodG same roomF roomG e in
-                (ap (λ (o : Outcome). numbers (o .0)) r, ap (λ (o : Outcome). o .1) r),
+                (ap (λ (o : Outcome). releasedNumbers (o .0)) r, ap (λ (o : Outcome). o .1) r),
           );
       short =
           λ sheet f g a b sheetGood goodF goodG same public less.
@@ -65,4 +72,5 @@ demand3 =
           let y = too-short sheet sheetGood g b goodG (needed sheet f) (ap (λ (p : Public). length (render p)) (sym public)) (rw (← same) less) in
           (x .0, x .1, y .0, y .1);
       again = again;
+      again-same = again-same;
     }

@@ -1,9 +1,10 @@
 pub mod ReleaseLaws
 pub mod Demand3
 pub mod NeverLonger
-pub mod Complete
+pub mod ReleasedFile
 pub mod BoundsBack
 pub mod BoundsOfKept
+pub mod Files
 pub mod Samples
 pub mod points
 pub mod sheet

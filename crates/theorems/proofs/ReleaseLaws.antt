@@ -12,6 +12,8 @@ use Rattle.lasfile.proofs.Passed.{passed, passes}
 use Rattle.sheet.specs.Sheet.{sheetVerdict}
 use Rattle.publicpart.specs.Public.{contents, publicOf}
 use Rattle.publicpart.specs.Render.{render}
+use Rattle.publicpart.specs.declared.Answer.{Answer}
+use Rattle.publicpart.specs.declared.Answer.the-variants.{Released}
 use Rattle.publicpart.specs.Release.{Outcome, release}
 use Rattle.publicpart.proofs.AnswerLaws.{release-long, Taken, release-taken}
 use Rattle.publicpart.proofs.PublicLaws.{public-again}
@@ -38,6 +40,20 @@ module _ (sheet f : Bytes) (good : Good f) where
 
     pub released-public : publicOf sheet (released sheet f k) ≡ publicOf sheet f
     released-public = public-again sheet f (released sheet f k) released-contents
+
+-- what a release of f under the sheet answers, and the outcome in an output of a length that has room
+abbrev pub answerOf : Bytes → Bytes → Answer
+answerOf sheet f = Released (needed sheet f) (length (publicOf sheet f .points)) (length (publicOf sheet f .records))
+
+abbrev pub intoLength : Bytes → Bytes → ℕ → Outcome
+intoLength sheet f n = (answerOf sheet f, released sheet f (n - needed sheet f))
+
+-- releasing the released file
+pub again-at : (sheet f : Bytes) → sheetVerdict sheet ≡ Passes → Good f → (k : ℕ) (b : Bytes) → needed sheet f ≤ length b
+    → release sheet (released sheet f k) b ≡ intoLength sheet f (length b)
+again-at sheet f sheetGood good k b room =
+    let e : publicOf sheet (released sheet f k) ≡ publicOf sheet f = released-public sheet f good k in
+    release-long sheet (released sheet f k) b (released-passes sheet f good k) sheetGood (rw e room) ∙ rw e
 
 -- ---- an accepted release
 
@@ -70,6 +86,20 @@ accepted-means sheet f a n q r h =
       cut-output =
           ap (take n) o ∙ take-at x (zeros (length a - length x)) n (t .answer .0) ∙ sym (append-nil x);
     }
+
+-- an accepted outcome, cut at n and filled with zeros to another length
+module _ (sheet f a : Bytes) (n q r : ℕ) (h : Accepted sheet f a n q r) where
+  pub in-length : (other : ℕ) → (release sheet f a .0, take n (release sheet f a .1) ++ zeros (other - n)) ≡ intoLength sheet f other
+  in-length other =
+      let m : Known sheet f a n q r = accepted-means sheet f a n q r h in
+      let e : release sheet f a .0 ≡ answerOf sheet f = ap (λ (o : Outcome). o .0) (release-long sheet f a (m .good .passes) (m .sheet-passes) (m .room)) in
+      rw (e, m .cut-output, append-nil (render (publicOf sheet f)), ← m .answer .0)
+
+  -- to its own length, it is itself
+  pub own-length : (release sheet f a .0, take n (release sheet f a .1) ++ zeros (length a - n)) ≡ release sheet f a
+  own-length =
+      let m : Known sheet f a n q r = accepted-means sheet f a n q r h in
+      in-length (length a) ∙ sym (release-long sheet f a (m .good .passes) (m .sheet-passes) (m .room))
 
 -- what holds of the released file with k zeros behind it, for every k, holds of the output
 pub of-output : (sheet f a : Bytes) (n q r : ℕ) (P : Bytes → Type 0) → Known sheet f a n q r → ((k : ℕ) → P (released sheet f k)) → OfOutput sheet f a n P

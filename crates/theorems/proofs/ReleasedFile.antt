@@ -15,7 +15,7 @@ use Rattle.publicpart.proofs.PublicLaws.{carried-length, contents-carried, publ
 use Rattle.publicpart.proofs.RenderLaws.{new-offset, total-length}
 use Rattle.publicpart.proofs.Back.{length-render}
 use Rattle.theorems.specs.Terms.{Good, needed}
-use Rattle.theorems.specs.Complete.{keptRecords, keptPoints, Holds, Complete}
+use Rattle.theorems.specs.ReleasedFile.{recordsKept, pointsKept, Holds, Complete}
 use Rattle.theorems.proofs.ReleaseLaws.{public-sound, released, released-contents, Known, accepted-means, of-output}
 
 -- a file whose contents are the public part
@@ -29,7 +29,7 @@ holds sheet f out e =
     }
 
 length-is : (sheet f : Bytes) → Good f
-    → needed sheet f ≡ headerBlock + total (recordLen 2) (keptRecords sheet f) + length (keptPoints sheet f) * recordLength f
+    → needed sheet f ≡ headerBlock + total (recordLen 2) (recordsKept sheet f) + length (pointsKept sheet f) * recordLength f
 length-is sheet f good =
     let p : Public = publicOf sheet f in
     length-render p (public-sound sheet f good)

@@ -1,3 +1,3 @@
 pub mod NumberLaws
-pub mod Accepted
+pub mod ZeroWhereAccepted
 pub mod OwnBits

@@ -1,4 +1,4 @@
--- Document 01's bench samples P1 to P10, in one table: what the definitions give, and what the document says.
+-- The specification's bench samples P1 to P10, in one table: what the definitions give, and what the specification says.
 -- Assumes nothing.
 use mathlib.Core.Path.{_≡_}
 use Prim.Native.Nat.{ℕ}
@@ -19,7 +19,8 @@ use Rattle.lasfile.specs.FileChecks.{fileVerdict}
 use Rattle.sheet.specs.Sheet.{sheetVerdict}
 use Rattle.sheet.specs.Keeping.{keepsClass}
 use Rattle.publicpart.specs.Bounds.{upFrom}
-use Rattle.publicpart.specs.Release.{Outcome, numbers, release}
+use Rattle.publicpart.specs.Release.{Outcome, release}
+use Rattle.capi.specs.Answers.{releasedNumbers}
 
 -- ---- what the samples are about
 
@@ -96,7 +97,7 @@ fieldsOf (Fields q) =
 
 -- the four numbers returned
 unfoldable pub fourNumbers : Outcome → List ℤ
-fourNumbers o = let n = numbers (o .0) in whole (n .code ∷ n .fileLength ∷ n .points ∷ n .records ∷ [])
+fourNumbers o = let n = releasedNumbers (o .0) in whole (n .number ∷ n .length ∷ n .points ∷ n .records ∷ [])
 
 -- `fin false m e` is m · 2 ^ e, and `negsuc n` is -1 - n: 0.5 is 1 · 2 ^ -1, 10 is 5 · 2 and 9.5 is 19 · 2 ^ -1
 unfoldable pub samples : List (List ℤ × List ℤ)

@@ -1,14 +1,33 @@
--- What is proved of what a sheet keeps: it is what some line says.
+-- What is proved of a keep sheet: its lines are the whole of it, and it keeps what some line says.
 -- Assumes nothing.
 use mathlib.Core.Path.{_≡_}
 use mathlib.Core.Logic.{_↔_}
 use Prim.Native.Nat.{ℕ, _≤_}
 use mathlib.Core.Bool.{true, false}
-use mathlib.Core.List.{List, [], List·Memᴰ}
-use Rattle.fields.specs.declared.Verdict.the-variants.{Passes}
-use Rattle.fields.specs.Bytes.{Bytes}
+use mathlib.Core.List.{List, [], _∷_, _++_, List·Memᴰ}
+use lib.ListN.{length, replicate}
+use Rattle.fields.specs.declared.Verdict.the-variants.{Passes, Fails}
+use Rattle.fields.specs.Bytes.{Bytes, join}
 use Rattle.sheet.specs.Sheet.{kind, lowest, highest, userID, recordID, lines, sheetVerdict}
 use Rattle.sheet.specs.Keeping.{keepsClass, keepsRecord}
+
+-- ---- lines
+
+-- a line of kind 1
+abbrev pub line : Bytes
+line = 0x4B ∷ 0x53 ∷ 0x01 ∷ 0x02 ∷ 0x02 ∷ []
+
+pub record SheetLines : Type 0 where
+  -- a sheet that passes is its lines, back to back
+  pub whole : (s : Bytes) → sheetVerdict s ≡ Passes → join (lines s) ≡ s
+  -- no sheet has more than 64
+  pub at-most-64 : (s : Bytes) → length (lines s) ≤ 64
+  -- 64 lines pass
+  pub sixty-four : sheetVerdict (join (replicate 64 line)) ≡ Passes
+  -- and one byte more begins a 65th
+  pub sixty-five : sheetVerdict (join (replicate 64 line) ++ 0x4B ∷ []) ≡ Fails 24
+
+-- ---- what is kept
 
 -- a line of which P holds
 pub record SomeLine (ls : List Bytes) (P : Bytes → Type 0) : Type 0 where
@@ -16,9 +35,10 @@ pub record SomeLine (ls : List Bytes) (P : Bytes → Type 0) : Type 0 where
   pub among : List·Memᴰ line ls
   pub so : P line
 
-pub record Kept : Type 0 where
+pub record KeptByLines : Type 0 where
   -- a class is kept exactly if some kind 1 line of the sheet contains it
-  pub class : (sheet : Bytes) (c : ℕ) → (keepsClass sheet c ≡ true) ↔ SomeLine (lines sheet) (λ l. (kind l ≡ 1) × (lowest l ≤ c) × (c ≤ highest l))
+  pub class : (sheet : Bytes) (c : ℕ)
+      → (keepsClass sheet c ≡ true) ↔ SomeLine (lines sheet) (λ l. (kind l ≡ 1) × (lowest l ≤ c) × (c ≤ highest l))
   -- a record is kept exactly if some kind 2 line of the sheet has its cut user ID and its ID
   pub entry : (sheet user : Bytes) (id : ℕ)
       → (keepsRecord sheet user id ≡ true) ↔ SomeLine (lines sheet) (λ l. (kind l ≡ 2) × (userID l ≡ user) × (recordID l ≡ id))
@@ -26,4 +46,6 @@ pub record Kept : Type 0 where
   pub by-lines : (s t : Bytes) → lines s ≡ lines t
       → ((c : ℕ) → keepsClass s c ≡ keepsClass t c) × ((user : Bytes) (id : ℕ) → keepsRecord s user id ≡ keepsRecord t user id)
   -- the empty sheet is good and keeps nothing
-  pub empty : (sheetVerdict [] ≡ Passes) × ((c : ℕ) → keepsClass [] c ≡ false) × ((user : Bytes) (id : ℕ) → keepsRecord [] user id ≡ false)
+  pub empty : (sheetVerdict [] ≡ Passes)
+      × ((c : ℕ) → keepsClass [] c ≡ false)
+      × ((user : Bytes) (id : ℕ) → keepsRecord [] user id ≡ false)

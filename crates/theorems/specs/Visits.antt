@@ -1,4 +1,4 @@
--- What is proved of stepping: from (0, header size) it visits exactly the records of the definition, in order, and then gives 18.
+-- What is proved of stepping: from (0, header size) it visits exactly the file's records, in order, and then gives 18.
 -- Assumes nothing.
 use mathlib.Core.Path.{_≡_}
 use Prim.Native.Nat.{ℕ, suc, _+_}
@@ -24,9 +24,10 @@ pub record Means (s : Bytes) (at : ℕ) (r : RecordPlaces) : Type 0 where
   pub payload : part (r .«payload_place») (r .«payload_length») s ≡ recordAt 2 s at .payload
 
 pub record Visits : Type 0 where
-  -- with at least one step more than there are records
+  -- stepping on from (0, header size), at least one step more than there are records, visits the counted records in order
   pub visits : (s : Bytes) → fileVerdict s ≡ Passes → (m : ℕ)
       → visited (recordCount s + suc m) s (cursor 0 (headerSize s)) ≡ map (recordPlaces s) (places 2 (recordCount s) (headerSize s) s)
   -- where no record is left, a step gives 18
   pub ends-in-18 : (s : Bytes) → fileVerdict s ≡ Passes → (position : ℕ) → stepOf s (recordCount s) position ≡ Refused 18
+  -- the places that a step answers are those of the record's texts and payload
   pub places-mean : (s : Bytes) (at : ℕ) → Means s at (recordPlaces s at)

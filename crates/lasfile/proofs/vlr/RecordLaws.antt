@@ -12,7 +12,7 @@ use Rattle.fields.specs.Lists.{All, total}
 use Rattle.fields.specs.Bytes.{Bytes, AllBytes, part, num, bytesOf, join, Fit, start}
 use Rattle.fields.specs.Text.{cut, padded}
 use Rattle.lasfile.specs.Records.{Record, recordWidths, frontSize, payloadLength, recordOf, sizeOf, places, walk, walkEnd, recordFields, recordBytes, recordLen, recordsBytes}
-use Rattle.lasfile.specs.ReadBack.{SoundRecord, WalkBack, WalkEndBack}
+use Rattle.lasfile.specs.ReadBack.{SoundRecord}
 use Rattle.fields.proofs.ByteLaws.{num-bytesOf, length-bytesOf, num-part-lt, length-part, field-back, length-join, drop-bytes}
 use Rattle.fields.proofs.TextLaws.{held, length-padded}
 
@@ -172,7 +172,9 @@ module _ (lw : ℕ) where
   next : (pre : Bytes) (r : Record) (at : ℕ) → SoundRecord lw r → length pre ≡ at → length (pre ++ recordBytes lw r) ≡ at + recordLen lw r
   next pre r at h e = omega (arith, length-append pre (recordBytes lw r), length-recordBytes r h)
 
-  pub walk-back : WalkBack lw
+  -- a walk over records that were written at a place finds them, whatever stands before and behind them
+  pub walk-back : (rs : List Record) → All (SoundRecord lw) rs → (at : ℕ) (pre rest : Bytes) → length pre ≡ at
+      → walk lw (length rs) at (pre ++ (recordsBytes lw rs ++ rest)) ≡ rs
   walk-back [] h at pre rest e = walk-none lw at (pre ++ (recordsBytes lw [] ++ rest))
   walk-back (r ∷ rs) h at pre rest e =
       let s : Bytes = pre ++ (recordsBytes lw (r ∷ rs) ++ rest) in
@@ -182,7 +184,9 @@ module _ (lw : ℕ) where
       rw (regroup pre r rs rest) (walk-back rs (h .1) (at + recordLen lw r) (pre ++ recordBytes lw r) rest (next pre r at (h .0) e)) in
       walk-step lw (length rs) at s ∙ rw (here, after, later)
 
-  pub walkEnd-back : WalkEndBack lw
+  -- and it ends where they do
+  pub walkEnd-back : (rs : List Record) → All (SoundRecord lw) rs → (at : ℕ) (pre rest : Bytes) → length pre ≡ at
+      → walkEnd lw (length rs) at (pre ++ (recordsBytes lw rs ++ rest)) ≡ at + total (recordLen lw) rs
   unfolding total
   walkEnd-back [] h at pre rest e = omega (arith, walkEnd-none lw at (pre ++ (recordsBytes lw [] ++ rest)))
   walkEnd-back (r ∷ rs) h at pre rest e =

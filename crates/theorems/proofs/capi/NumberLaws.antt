@@ -10,7 +10,7 @@ use Rattle.fields.specs.declared.Verdict.{Verdict}
 use Rattle.fields.specs.declared.Verdict.the-variants.{Passes, Fails}
 use Rattle.lasfile.specs.FileChecks.{fileVerdict}
 use Rattle.sheet.specs.Sheet.{lineChecks, linesVerdict, sheetVerdict, afterLine}
-use Rattle.theorems.specs.Accepted.{passes, isZero}
+use Rattle.theorems.specs.ZeroWhereAccepted.{passes, isZero}
 
 -- a verdict whose number is 0 exactly where it passes
 unfoldable pub Numbered : Verdict → Type 0

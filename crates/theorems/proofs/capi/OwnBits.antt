@@ -5,8 +5,7 @@ use Prim.Native.Nat.{ℕ}
 use mathlib.Core.List.{List, [], _∷_}
 use Rattle.fields.specs.Bytes.{Bytes, AllBytes}
 use Rattle.fields.specs.declared.Verdict.the-variants.{Passes}
-use Rattle.theorems.specs.Axes.{Axis, X, Y, Z, scaleOf, offsetOf, scalePlace, offsetPlace}
-use Rattle.theorems.specs.Statements.{Carried}
+use Rattle.theorems.specs.Coordinates.{Axis, X, Y, Z, axisScale, axisOffset, scalePlace, offsetPlace, CarriedBits, OwnBits}
 use Rattle.theorems.proofs.scaling.CoordinateTheorems.{carried}
 use Rattle.lasfile.specs.FileChecks.{fileVerdict}
 use Rattle.lasfile.proofs.Passed.{passed}
@@ -14,7 +13,6 @@ use Rattle.reader.specs.Header.{headerOf, fieldsIf, headerRead}
 use Rattle.capi.specs.HeaderAnswers.{scaleNumbers, offsetNumbers, headerFields, headerNumbers}
 use Rattle.capi.specs.declared.header.«las_header».{«las_header»}
 use Rattle.capi.specs.Interface.{lasReadHeader}
-use Rattle.theorems.specs.OwnBits.{OwnBits}
 
 read : (file : Bytes) → fileVerdict file ≡ Passes → lasReadHeader file ≡ headerFields (headerOf file)
 unfolding lasReadHeader headerRead fieldsIf headerNumbers
@@ -23,11 +21,11 @@ read file e = rw e refl
 three : {a b c x y z : ℕ} → a ≡ x → b ≡ y → c ≡ z → _≡_ {A = List ℕ} (a ∷ b ∷ c ∷ []) (x ∷ y ∷ z ∷ [])
 three p q r i = p i ∷ q i ∷ r i ∷ []
 
-by-bits : (file : Bytes) → AllBytes file → fileVerdict file ≡ Passes → (axis : Axis) → Carried file axis
+by-bits : (file : Bytes) → AllBytes file → fileVerdict file ≡ Passes → (axis : Axis) → CarriedBits file axis
 by-bits file h e = carried file h (passed file e .scaled)
 
 pub own-bits : OwnBits
-unfolding headerFields headerOf scaleNumbers offsetNumbers scaleOf offsetOf scalePlace offsetPlace
+unfolding headerFields headerOf scaleNumbers offsetNumbers axisScale axisOffset scalePlace offsetPlace
 own-bits =
     record {
       scales =

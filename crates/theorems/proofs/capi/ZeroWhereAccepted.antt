@@ -23,13 +23,13 @@ use Rattle.sheet.specs.Sheet.{sheetVerdict}
 use Rattle.sheet.specs.KeptAnswers.{keptUnder}
 use Rattle.geokeys.specs.GeoKeys.{directoryChecks, entryChecks, doubleChecks, textChecks, answerIf, either, doubleIn, textIn, inParameters, fromEntry, fromDirectory, lookup, locationOf, payloadAt, entryOf, projectionPlace}
 use Rattle.geokeys.specs.declared.GeoKey.{GeoKey}
-use Rattle.publicpart.specs.Release.{Outcome, numbers, refuseOr, shortOr, accepted, roomOr, release}
+use Rattle.publicpart.specs.Release.{Outcome, refuseOr, shortOr, accepted, roomOr, release}
 use Rattle.capi.specs.Answers.{releasedNumbers, keptNumbers}
 use Rattle.capi.specs.RecordAnswers.{recordFields, noRecord, recordNumbers, geokeyNumbers}
 use Rattle.capi.specs.PointAnswers.{pointFields, noPoint, pointNumbers, decodedNumbers}
 use Rattle.capi.specs.HeaderAnswers.{headerFields, noHeader, headerNumbers}
 use Rattle.capi.specs.Interface.{lasCheckFile, lasCheckSheet, lasReadHeader, lasVlrStep, lasPointAt, lasDecode, lasEncode, lasClassKept, lasRecordKept, lasGeokeyFind, lasRelease}
-use Rattle.theorems.specs.Accepted.{passes, hasFields, hasRecord, hasPoint, isDecoded, isFound, isReleased, isZero, ZeroWhereAccepted}
+use Rattle.theorems.specs.ZeroWhereAccepted.{passes, hasFields, hasRecord, hasPoint, isDecoded, isFound, isReleased, isZero, ZeroWhereAccepted}
 use Rattle.theorems.proofs.capi.NumberLaws.{Numbered, AboveZero, first-numbered, then-numbered, file-numbered, sheet-numbered}
 
 -- ---- an answer that a verdict decides
@@ -117,17 +117,17 @@ NumberedOutcome : Outcome → Type 0
 NumberedOutcome o = isZero (releasedNumbers (o .0) .number) ≡ isReleased (o .0)
 
 refuse-or : (v : Verdict) (out : Bytes) (later : Outcome) → Numbered v → NumberedOutcome later → NumberedOutcome (refuseOr v out later)
-unfolding NumberedOutcome refuseOr releasedNumbers numbers isReleased Numbered passes numberOf
+unfolding NumberedOutcome refuseOr releasedNumbers isReleased Numbered passes numberOf
 refuse-or Passes out later e h = h
 refuse-or (Fails n) out later e h = e
 
 short-or : (b : Bool) (n : ℕ) (out : Bytes) (later : Outcome) → NumberedOutcome later → NumberedOutcome (shortOr b n out later)
-unfolding NumberedOutcome shortOr releasedNumbers numbers isReleased isZero
+unfolding NumberedOutcome shortOr releasedNumbers isReleased isZero
 short-or true n out later h = refl
 short-or false n out later h = h
 
 released : (sheet s out : Bytes) → NumberedOutcome (release sheet s out)
-unfolding release roomOr accepted NumberedOutcome releasedNumbers numbers isReleased isZero
+unfolding release roomOr accepted NumberedOutcome releasedNumbers isReleased isZero
 released sheet s out =
     refuse-or (then (fileVerdict s) (sheetVerdict sheet)) out _
     (then-numbered (fileVerdict s) (sheetVerdict sheet) (file-numbered s) (sheet-numbered sheet))

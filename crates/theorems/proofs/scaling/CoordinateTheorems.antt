@@ -1,5 +1,5 @@
--- The theorems about coordinates, as specs/Statements.antt states them: a file that passes has finite coordinates in the order of their stored
--- values, its scales and offsets are carried by their bits, and document 01's exact case is exact. Sample P8. Assumes nothing.
+-- The theorems about coordinates: a file that passes has finite coordinates in the order of their stored values, its scales and offsets
+-- are carried by their bits, and the exact case is exact. Assumes nothing.
 use mathlib.Core.Path.{_≡_, refl}
 use Prim.Native.Nat.{ℕ, zero, suc, _+_, _*_, _^_, _≤_, _<_}
 use native.Mathlib.Nat.{mul-le-mul}
@@ -20,11 +20,9 @@ use Rattle.scaling.specs.declared.Scaling.{Scaling}
 use Rattle.scaling.proofs.ScalingLaws.{double-in}
 use Rattle.scaling.specs.Coordinate.{coordinateOf}
 use Rattle.scaling.specs.Scaling.{doubleAt, scalingIn, scalingOf, within, goodScale, goodOffset, goodScaling}
-use Rattle.theorems.specs.WholeNumbers.{signed, Times}
-use Rattle.theorems.specs.Axes.{Axis, X, Y, Z, scaleOf, offsetOf, scalePlace, offsetPlace}
-use Rattle.theorems.specs.Statements.{Stored, FiniteInOrder, ExactCase, Exact, Carried}
+use Rattle.theorems.specs.Coordinates.{Axis, X, Y, Z, axisScale, axisOffset, scalePlace, offsetPlace, signed, Times, Fits32, FiniteInOrder, ExactCase, Exact, CarriedBits, Coordinates}
 use Rattle.theorems.proofs.scaling.SignedLaws.{Le, Le-mul, negative, int-order, int-sum-size, size-times}
-use Rattle.theorems.proofs.scaling.RoundLaws.{Bounded, bounded-finite, le-fin, product-is, round-bounded, round-order, add-finite, add-order}
+use Rattle.theorems.proofs.scaling.RoundLaws.{SizeUpTo, bounded-finite, le-fin, product-is, round-bounded, round-order, add-finite, add-order}
 use Rattle.theorems.proofs.scaling.ExactLaws.{times-int, times-product, times-add, times-finer}
 
 -- ---- a scale and an offset that pass
@@ -35,7 +33,7 @@ ends lo hi x h = (and-l (le lo x) (le x hi) h, and-r (le lo x) (le x hi) h)
 
 -- above 0 and at most 2 ^ 20
 abbrev Scale : Float → Type 0
-Scale x = T (positive x) × Bounded (2 ^ 20) x
+Scale x = T (positive x) × SizeUpTo (2 ^ 20) x
 
 good-scale : (x : Float) → T (goodScale x) → Scale x
 unfolding goodScale
@@ -44,14 +42,14 @@ good-scale x h =
     let p = between (fin false 1 (negsuc 39)) x (fin false 1 (pos 20)) tt tt (e .0) (e .1) in
     (p, size x p (e .1))
   where
-    size : (x : Float) → T (positive x) → T (le x (fin false 1 (pos 20))) → Bounded (2 ^ 20) x
+    size : (x : Float) → T (positive x) → T (le x (fin false 1 (pos 20))) → SizeUpTo (2 ^ 20) x
     size (fin false n d) p k = omega (arith, le-fin false false n 1 d (pos 20) k)
 
-good-offset : (x : Float) → T (goodOffset x) → Bounded (2 ^ 40) x
+good-offset : (x : Float) → T (goodOffset x) → SizeUpTo (2 ^ 40) x
 unfolding goodOffset
 good-offset x h = let e = ends (fin true 1 (pos 40)) (fin false 1 (pos 40)) x h in size x (e .0) (e .1)
   where
-    size : (x : Float) → T (le (fin true 1 (pos 40)) x) → T (le x (fin false 1 (pos 40))) → Bounded (2 ^ 40) x
+    size : (x : Float) → T (le (fin true 1 (pos 40)) x) → T (le x (fin false 1 (pos 40))) → SizeUpTo (2 ^ 40) x
     size nan p q = unfold le in p
     size (inf true) p q = unfold le in p
     size (inf false) p q = unfold le in q
@@ -66,7 +64,7 @@ product-size z n d h k = omega (arith, mul-le-mul h k)
 few-digits : (n : ℕ) → n ≤ 2 ^ 31 → n ≤ 2 ^ 53
 few-digits n h = omega arith
 
-product-bounded : (z : ℤ) (x : Float) → natAbs z ≤ 2 ^ 31 → Scale x → Bounded (2 ^ 51) (mul binary64 (ofInt binary64 z) x)
+product-bounded : (z : ℤ) (x : Float) → natAbs z ≤ 2 ^ 31 → Scale x → SizeUpTo (2 ^ 51) (mul binary64 (ofInt binary64 z) x)
 product-bounded z (fin false n d) h (p, k) =
     rw (product-is binary64 z n d (few-digits (natAbs z) h))
     (round-bounded binary64 (2 ^ 51) (negative z) (natAbs z * (n * up d)) (down d) (lit≤ tt) (down-pos d)
@@ -83,7 +81,7 @@ product-order a b (fin false n d) ha hb (p, k) h =
     (Le-mul (negative a) (negative b) (natAbs a) (natAbs b) N (int-order a b h))))
 
 pub finite-in-order : (scale offset : Float) → T (goodScale scale) → T (goodOffset offset) → FiniteInOrder scale offset
-unfolding Stored coordinateOf
+unfolding Fits32 coordinateOf
 finite-in-order scale offset p q =
     let s = good-scale scale p in
     let o = good-offset offset q in
@@ -109,15 +107,15 @@ all-good c h =
     six (goodScale (c .«x_scale»)) (goodScale (c .«y_scale»)) (goodScale (c .«z_scale»))
     (goodOffset (c .«x_offset»)) (goodOffset (c .«y_offset»)) (goodOffset (c .«z_offset»)) h
 
-good-axis : (c : Scaling) → T (goodScaling c) → (axis : Axis) → T (goodScale (scaleOf axis c)) × T (goodOffset (offsetOf axis c))
-unfolding scaleOf offsetOf
+good-axis : (c : Scaling) → T (goodScaling c) → (axis : Axis) → T (goodScale (axisScale axis c)) × T (goodOffset (axisOffset axis c))
+unfolding axisScale axisOffset
 good-axis c h X = let g = all-good c h in (g .0, g .3)
 good-axis c h Y = let g = all-good c h in (g .1, g .4)
 good-axis c h Z = let g = all-good c h in (g .2, g .5)
 
 -- with c the record of a file, `scalingOf s`
-pub passing : (c : Scaling) → T (goodScaling c) → (axis : Axis) → FiniteInOrder (scaleOf axis c) (offsetOf axis c)
-passing c h axis = let g = good-axis c h axis in finite-in-order (scaleOf axis c) (offsetOf axis c) (g .0) (g .1)
+pub passing : (c : Scaling) → T (goodScaling c) → (axis : Axis) → FiniteInOrder (axisScale axis c) (axisOffset axis c)
+passing c h axis = let g = good-axis c h axis in finite-in-order (axisScale axis c) (axisOffset axis c) (g .0) (g .1)
 
 -- ---- carried by their bits
 
@@ -129,23 +127,23 @@ pub carried-at : (s : Bytes) (at : ℕ) → AllBytes s → T (finite (doubleAt s
 unfolding doubleAt
 carried-at s at h p = toBits-ofBits binary64 (num (part at 8 s)) (num-part-lt at 8 s h) (not-nan (doubleAt s at) p)
 
-scale-is : (s : Bytes) (axis : Axis) → scaleOf axis (scalingOf s) ≡ doubleAt s (scalePlace axis)
-unfolding scaleOf scalingOf scalingIn scalePlace
+scale-is : (s : Bytes) (axis : Axis) → axisScale axis (scalingOf s) ≡ doubleAt s (scalePlace axis)
+unfolding axisScale scalingOf scalingIn scalePlace
 scale-is s X = double-in s 131 48 0 (lit≤ tt)
 scale-is s Y = double-in s 131 48 8 (lit≤ tt)
 scale-is s Z = double-in s 131 48 16 (lit≤ tt)
 
-offset-is : (s : Bytes) (axis : Axis) → offsetOf axis (scalingOf s) ≡ doubleAt s (offsetPlace axis)
-unfolding offsetOf scalingOf scalingIn offsetPlace
+offset-is : (s : Bytes) (axis : Axis) → axisOffset axis (scalingOf s) ≡ doubleAt s (offsetPlace axis)
+unfolding axisOffset scalingOf scalingIn offsetPlace
 offset-is s X = double-in s 131 48 24 (lit≤ tt)
 offset-is s Y = double-in s 131 48 32 (lit≤ tt)
 offset-is s Z = double-in s 131 48 40 (lit≤ tt)
 
-pub carried : (s : Bytes) → AllBytes s → T (goodScaling (scalingOf s)) → (axis : Axis) → Carried s axis
+pub carried : (s : Bytes) → AllBytes s → T (goodScaling (scalingOf s)) → (axis : Axis) → CarriedBits s axis
 carried s h p axis =
     let g = good-axis (scalingOf s) p axis in
-    let scale = bounded-finite (2 ^ 20) (scaleOf axis (scalingOf s)) (good-scale (scaleOf axis (scalingOf s)) (g .0) .1) in
-    let offset = bounded-finite (2 ^ 40) (offsetOf axis (scalingOf s)) (good-offset (offsetOf axis (scalingOf s)) (g .1)) in
+    let scale = bounded-finite (2 ^ 20) (axisScale axis (scalingOf s)) (good-scale (axisScale axis (scalingOf s)) (g .0) .1) in
+    let offset = bounded-finite (2 ^ 40) (axisOffset axis (scalingOf s)) (good-offset (axisOffset axis (scalingOf s)) (g .1)) in
     record {
       scale-bits = rw (scale-is s axis) (carried-at s (scalePlace axis) h (rw (scale-is s axis) at scale));
       offset-bits = rw (offset-is s axis) (carried-at s (offsetPlace axis) h (rw (offset-is s axis) at offset));
@@ -157,7 +155,7 @@ offset-size : (whole : ℤ) (k : ℕ) → natAbs whole ≤ 2 ^ 40 → k ≤ 10 �
 offset-size whole k h l = rw (size-times whole (2 ^ k)) (mul-le-mul h (pow-mono l))
 
 pub exact : {k : ℕ} {scale offset : Float} {whole : ℤ} → ExactCase k scale offset whole → Exact k scale offset whole
-unfolding Exact Stored coordinateOf
+unfolding Exact Fits32 coordinateOf
 exact {k} {scale} {offset} {whole} e =
     λ stored h.
     let far = whole *ℤ pos (2 ^ k) in
@@ -175,3 +173,12 @@ exact-case k whole h l = record { few = h; power = power k; is-whole = times-int
     power : (k : ℕ) → Times k (fin false 1 (negℤ (pos k))) (pos 1)
     power zero = unfold Times signed in refl
     power (suc k) = unfold Times signed in refl
+
+pub coordinates : Coordinates
+coordinates =
+    record {
+      finite-in-order = passing;
+      carried = carried;
+      exact = λ k scale offset whole e. exact e;
+      exact-case = exact-case;
+    }

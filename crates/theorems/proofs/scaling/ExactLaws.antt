@@ -9,7 +9,7 @@ use lib.IntN.{ℤ, pos, natAbs, _+ℤ_, _*ℤ_}
 use lib.Ieee.{Float, fin, Format, prec, low, up, down, round, sum, add, mul, ofInt}
 use lib.Ieee.Fits.{down-pos}
 use lib.Ieee.Exact.{HasValue}
-use Rattle.theorems.specs.WholeNumbers.{signed, Times}
+use Rattle.theorems.specs.Coordinates.{signed, Times}
 use Rattle.theorems.proofs.scaling.SignedLaws.{Same, Sum, Same-mul, Same-cancel, Sum-mul, same-size, negative, int-sum, int-times, of-signed, to-signed, signed-times}
 use Rattle.theorems.proofs.scaling.RoundLaws.{round-kept, sum-rounded, int-value, product-is}
 

@@ -221,18 +221,18 @@ product-is f z n d h = mul-is f (ofInt f z) (negative z) (natAbs z) n d (int-val
 
 -- ---- doubles of size at most B: finite, and their sums are finite and in order
 
-abbrev pub Bounded : ℕ → Float → Type 0
-Bounded B nan = ⊥
-Bounded B (inf s) = ⊥
-Bounded B (fin s m e) = m * up e ≤ B * down e
+abbrev pub SizeUpTo : ℕ → Float → Type 0
+SizeUpTo B nan = ⊥
+SizeUpTo B (inf s) = ⊥
+SizeUpTo B (fin s m e) = m * up e ≤ B * down e
 
-pub bounded-finite : (B : ℕ) (x : Float) → Bounded B x → T (finite x)
+pub bounded-finite : (B : ℕ) (x : Float) → SizeUpTo B x → T (finite x)
 bounded-finite B (fin s m e) h = tt
 
-pub round-bounded : (f : Format) (B : ℕ) (s : Bool) (a c : ℕ) → B ≤ 2 ^ prec f → 0 < c → a ≤ B * c → Bounded B (round f s a c)
+pub round-bounded : (f : Format) (B : ℕ) (s : Bool) (a c : ℕ) → B ≤ 2 ^ prec f → 0 < c → a ≤ B * c → SizeUpTo B (round f s a c)
 round-bounded f B s a c held C h = of-value (round f s a c) (round-value f B held s a c C h)
   where
-    of-value : (x : Float) → HasValue x s (grid f a c) (2 ^ low f) → Bounded B x
+    of-value : (x : Float) → HasValue x s (grid f a c) (2 ^ low f) → SizeUpTo B x
     of-value (fin t m e) v =
         let l : Le false (grid f a c * 1) false (B * 2 ^ low f) = omega (arith, grid-small f B held a c C h) in
         omega
@@ -245,7 +245,7 @@ module _ (f : Format) (A B : ℕ) (held : A + B ≤ 2 ^ prec f) where
       let q : y * e ≤ B * (e * d) = rw (mul-assoc B d e, mul-comm d e) at (mul-le-mul-right e k) in
       rw (add-mul A B (e * d)) (omega (arith, Sum-size r s t n (x * d) (y * e) z))
 
-  pub add-finite : (x y : Float) → Bounded A x → Bounded B y → T (finite (add f x y))
+  pub add-finite : (x y : Float) → SizeUpTo A x → SizeUpTo B y → T (finite (add f x y))
   unfolding add
   add-finite (fin s m e) (fin t n d) h k =
       let C = down e * down d in
@@ -255,7 +255,7 @@ module _ (f : Format) (A B : ℕ) (held : A + B ≤ 2 ^ prec f) where
       (round-value f (A + B) held (r .sign) (r .size) C (mul-pos (down-pos e) (down-pos d))
       (sum-size s t (r .sign) (m * up e) (n * up d) (down e) (down d) (r .size) h k (r .total))))
 
-  pub add-order : (x y o : Float) → Bounded A x → Bounded A y → Bounded B o → T (le x y) → T (le (add f x o) (add f y o))
+  pub add-order : (x y o : Float) → SizeUpTo A x → SizeUpTo A y → SizeUpTo B o → T (le x y) → T (le (add f x o) (add f y o))
   unfolding add
   add-order (fin s m e) (fin t n d) (fin u p c) hx hy ho l =
       let De = down e in

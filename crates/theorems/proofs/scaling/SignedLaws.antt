@@ -8,7 +8,7 @@ use mathlib.Core.Bool.{Bool, true, false, not, cond}
 use lib.Dec.{T, ltb, ltb→lt, nltb→le, leb→le}
 use lib.IntN.{ℤ, pos, negsuc, natAbs, subℕ, _+ℤ_, _*ℤ_}
 use lib.Signed.{_≤ℤ_}
-use Rattle.theorems.specs.WholeNumbers.{signed}
+use Rattle.theorems.specs.Coordinates.{signed}
 
 abbrev pub plus : Bool → ℕ → ℕ
 plus s a = cond s 0 a

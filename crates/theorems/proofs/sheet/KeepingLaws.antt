@@ -14,7 +14,7 @@ use Rattle.fields.specs.Bytes.{Bytes, same}
 use Rattle.fields.proofs.ByteLaws.{same→eq, same-refl}
 use Rattle.sheet.specs.Sheet.{kind, lowest, highest, userID, recordID, lines, sheetVerdict}
 use Rattle.sheet.proofs.LineLaws.{lines-from, lines-end, verdict-from, verdict-end}
-use Rattle.theorems.specs.Kept.{SomeLine, Kept}
+use Rattle.theorems.specs.Sheets.{SomeLine, KeptByLines}
 use Rattle.sheet.specs.Keeping.{containsClass, namesRecord, keepsClass, keepsRecord}
 
 -- ---- what a line says
@@ -95,5 +95,5 @@ empty : (sheetVerdict [] ≡ Passes) × ((c : ℕ) → keepsClass [] c ≡ false
 unfolding keepsClass keepsRecord some
 empty = (verdict-from [] ∙ verdict-end 64 [] (omega arith), λ c. rw none, λ user id. rw none)
 
-pub kept : Kept
+pub kept : KeptByLines
 kept = record { class = keeps-class; entry = keeps-record; by-lines = same-lines; empty = empty }

@@ -11,7 +11,7 @@ use Rattle.fields.specs.Checks.{firstFailing, failIf, fails, then}
 use Rattle.fields.proofs.CheckLaws.{then-passed}
 use Rattle.sheet.specs.Sheet.{kind, lineLength, lowest, highest, afterLine, linesFrom, lines, inOrder, lineChecks, linesVerdict, sheetVerdict}
 use Rattle.sheet.proofs.LineLaws.{first-after, lines-from, lines-more, lines-full, lines-end, verdict-from, verdict-more, verdict-full}
-use Rattle.theorems.specs.Lines.{line, Lines}
+use Rattle.theorems.specs.Sheets.{line, SheetLines}
 
 join-lines : (n : ℕ) (s : Bytes) → linesVerdict n s ≡ Passes → join (linesFrom n s) ≡ s
 unfolding join
@@ -44,5 +44,5 @@ counted : (sheetVerdict (join (replicate 64 line)) ≡ Passes) × (sheetVerdict 
 unfolding sheetVerdict linesVerdict afterLine lineLength kind lowest highest lineChecks inOrder firstFailing failIf fails then same part join
 counted = (refl, refl)
 
-pub lines-are : Lines
+pub lines-are : SheetLines
 lines-are = record { whole = lines-whole; at-most-64 = at-most-64; sixty-four = counted .0; sixty-five = counted .1 }

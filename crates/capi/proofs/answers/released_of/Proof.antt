@@ -1,12 +1,11 @@
 -- `answers::released_of` meets its contract. Assumes nothing.
-use Rattle.publicpart.specs.Release.{numbers}
 use Rattle.capi.specs.Answers.{releasedNumbers}
 use borrow.Author.Needs.{needs}
 use Rattle.capi.proofs.answers.released_of.Statement.{statement}
 use Rattle.capi.proofs.answers.released_of.Tie as tie
 
 pub released-of-spec : {M : Type 1} → statement M
-unfolding releasedNumbers numbers
+unfolding releasedNumbers
 released-of-spec =
     tie.close
     (tie.spec (λ c. search needs) (λ c κs. tt) (λ c. search needs) (λ c κs. tt) (λ c. search needs) (λ c κs. tt)

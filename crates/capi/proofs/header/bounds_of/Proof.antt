@@ -1,6 +1,6 @@
 -- `header::bounds_of` meets its contract. Assumes nothing.
 use mathlib.Core.Path.{refl}
-use Rattle.capi.specs.HeaderAnswers.{boundNumbers}
+use Rattle.publicpart.specs.Bounds.{boundNumbers}
 use Rattle.capi.proofs.header.bounds_of.Statement.{statement}
 use Rattle.capi.proofs.header.bounds_of.Tie as tie
 
