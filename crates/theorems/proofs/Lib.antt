@@ -1,4 +1,6 @@
 pub mod ReleaseLaws
+pub mod TableLaws
+pub mod Demand1
 pub mod Demand3
 pub mod NeverLonger
 pub mod ReleasedFile

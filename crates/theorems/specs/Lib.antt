@@ -1,4 +1,6 @@
 pub mod Terms
+pub mod Tables
+pub mod Demand1
 pub mod Demand3
 pub mod ReleasedFile
 pub mod Coordinates

@@ -1,0 +1,322 @@
+-- Demand 1 holds: a refusal changes nothing lent, and each function's number is that of its table's first failing check.
+-- Assumes nothing.
+use mathlib.Core.Path.{_≡_, refl, sym, ap, _∙_}
+use Prim.Native.Nat.{ℕ, zero, suc}
+use native.Mathlib.Omega.{arith}
+use mathlib.Core.Bool.{Bool, true, false}
+use mathlib.Core.List.{List, [], _∷_, _++_}
+use mathlib.Core.Option.{Option, none, some}
+use lib.ListN.{length}
+use lib.Dec.{eqb, ltb}
+use Rattle.fields.specs.Bytes.{Bytes}
+use Rattle.fields.specs.Checks.{Check, _below_, not-so, fails, failIf, firstFailing, then, numberOf}
+use Rattle.fields.specs.declared.Verdict.{Verdict}
+use Rattle.fields.specs.declared.Verdict.the-variants.{Passes, Fails}
+use Rattle.fields.proofs.CheckLaws.{first-fails}
+use Rattle.points.specs.Points as points
+use Rattle.points.specs.Encoding as encoding
+use Rattle.points.specs.declared.Point.{Point}
+use Rattle.lasfile.specs.FileChecks.{fileChecks, fileVerdict}
+use Rattle.reader.specs.Header as header
+use Rattle.reader.specs.declared.header.Header.{Header}
+use Rattle.reader.specs.Steps.{stepChecks, recordIf, stepOf}
+use Rattle.reader.specs.declared.cursor.RecordPlaces.{RecordPlaces}
+use Rattle.reader.specs.declared.cursor.VlrCursor.{VlrCursor}
+use Rattle.reader.specs.OnePoint.{pointChecks, pointIf, pointAtOf}
+use Rattle.sheet.specs.Sheet.{lineChecks, afterLine, linesVerdict, sheetVerdict}
+use Rattle.sheet.specs.KeptAnswers.{keptUnder}
+use Rattle.geokeys.specs.GeoKeys.{directoryChecks, entryChecks, doubleChecks, textChecks, answerIf, either, doubleIn, textIn, inParameters, fromEntry, fromDirectory, lookup, locationOf, payloadAt, entryOf, projectionPlace}
+use Rattle.geokeys.specs.declared.GeoKey.{GeoKey}
+use Rattle.geokeys.specs.declared.GeoKey.the-variants.{Value}
+use Rattle.publicpart.specs.Public.{publicOf}
+use Rattle.publicpart.specs.Release.{Outcome, refuseOr, shortOr, accepted, roomOr, release}
+use Rattle.capi.specs.Answers.{releasedNumbers, keptNumbers}
+use Rattle.capi.specs.RecordAnswers.{recordFields, noRecord, recordNumbers, geokeyNumbers}
+use Rattle.capi.specs.PointAnswers.{pointFields, noPoint, pointNumbers, decodedNumbers, givenPoint}
+use Rattle.capi.specs.HeaderAnswers.{headerFields, noHeader, headerNumbers}
+use Rattle.capi.specs.Interface.{lasCheckFile, lasCheckSheet, lasReadHeader, lasVlrStep, lasPointAt, lasDecode, lasEncode, lasClassKept, lasRecordKept, lasGeokeyFind, lasRelease}
+use Rattle.theorems.specs.Terms.{needed}
+use Rattle.theorems.specs.Tables.{Follows, linesChecks, sheetChecks, isSome, chosen, valueChecks, parameterChecks, entryTable, directoryTable, lookupChecks, releaseChecks}
+use Rattle.theorems.specs.Demand1.{NothingChanged, EachNumber, Demand1}
+use Rattle.theorems.specs.ZeroWhereAccepted.{isReleased, isZero}
+use Rattle.theorems.proofs.capi.NumberLaws.{AboveZero}
+use Rattle.theorems.proofs.TableLaws.{joined, above-both, table-laws, follows}
+
+-- ---- a refusal changes nothing lent
+
+stored-not : (v : Verdict) (b room : Bytes) (n : ℕ) → encoding.storedIf v b room .0 ≡ Fails n → encoding.storedIf v b room .1 ≡ room
+unfolding encoding.storedIf
+stored-not Passes b room n e = let z : _≡_ {A = ℕ} 0 1 = cc in absurd (omega arith)
+stored-not (Fails m) b room n e = refl
+
+stored-numbered : (v : Verdict) (b room : Bytes) (n : ℕ) → numberOf (encoding.storedIf v b room .0) ≡ suc n → encoding.storedIf v b room .1 ≡ room
+unfolding encoding.storedIf numberOf
+stored-numbered Passes b room n e = absurd (omega arith)
+stored-numbered (Fails m) b room n e = refl
+
+-- a release whose later outcome leaves the output where it is not accepted
+not-released : (v : Verdict) (short? : Bool) (m : ℕ) (out : Bytes) (o : Outcome) → isReleased (o .0) ≡ true
+    → isReleased (refuseOr v out (shortOr short? m out o) .0) ≡ false → refuseOr v out (shortOr short? m out o) .1 ≡ out
+unfolding refuseOr shortOr
+not-released (Fails n) short? m out o h e = refl
+not-released Passes true m out o h e = refl
+not-released Passes false m out o h e = let z : true ≡ false = sym h ∙ e in let y : _≡_ {A = ℕ} 0 1 = cc in absurd (omega arith)
+
+numbered-out : (v : Verdict) (short? : Bool) (m : ℕ) (out : Bytes) (o : Outcome) (n : ℕ) → releasedNumbers (o .0) .number ≡ 0
+    → releasedNumbers (refuseOr v out (shortOr short? m out o) .0) .number ≡ suc n → refuseOr v out (shortOr short? m out o) .1 ≡ out
+unfolding refuseOr shortOr
+numbered-out (Fails c) short? m out o n h e = refl
+numbered-out Passes true m out o n h e = refl
+numbered-out Passes false m out o n h e = absurd (omega arith)
+
+nothing-changed : NothingChanged
+unfolding encoding.encoded release roomOr accepted isReleased lasEncode lasRelease releasedNumbers
+nothing-changed =
+    record {
+      encode = λ format len q room n e. stored-not _ _ room n e;
+      release = λ sheet file out e. not-released _ _ _ out (accepted (publicOf sheet file) (length out)) refl e;
+      las-encode = λ format len p room n e. stored-numbered _ _ room n e;
+      las-release = λ file sheet out n e. numbered-out _ _ _ out (accepted (publicOf sheet file) (length out)) n refl e;
+    }
+
+-- ---- an answer that a verdict decides has its number
+
+header-number : (v : Verdict) (h : Header) → headerNumbers (header.fieldsIf v h) .number ≡ numberOf v
+unfolding header.fieldsIf headerNumbers headerFields noHeader numberOf
+header-number Passes h = refl
+header-number (Fails n) h = refl
+
+step-number : (v : Verdict) (r : RecordPlaces) (next : VlrCursor) → recordNumbers (recordIf v r next) .number ≡ numberOf v
+unfolding recordIf recordNumbers recordFields noRecord numberOf
+step-number Passes r next = refl
+step-number (Fails n) r next = refl
+
+point-number : (v : Verdict) (at : ℕ) (p : Point) → pointNumbers (pointIf v at p) .number ≡ numberOf v
+unfolding pointIf pointNumbers pointFields noPoint numberOf
+point-number Passes at p = refl
+point-number (Fails n) at p = refl
+
+decoded-number : (v : Verdict) (p : Point) → decodedNumbers (points.fieldsIf v p) .number ≡ numberOf v
+unfolding points.fieldsIf decodedNumbers pointFields noPoint numberOf
+decoded-number Passes p = refl
+decoded-number (Fails n) p = refl
+
+encoded-number : (v : Verdict) (b room : Bytes) → numberOf (encoding.storedIf v b room .0) ≡ numberOf v
+unfolding encoding.storedIf
+encoded-number Passes b room = refl
+encoded-number (Fails n) b room = refl
+
+kept-number : (v : Verdict) (kept : Bool) → keptNumbers (keptUnder v kept) .number ≡ numberOf v
+unfolding keptUnder keptNumbers numberOf
+kept-number Passes true = refl
+kept-number Passes false = refl
+kept-number (Fails n) kept = refl
+
+-- ---- the file
+
+file-above : (file : Bytes) → AboveZero (fileChecks file)
+unfolding AboveZero isZero
+file-above file = (refl, (refl, (refl, (refl, (refl, (refl, (refl, (refl, (refl, (refl, tt))))))))))
+
+file-first : (file : Bytes) → fileVerdict file ≡ firstFailing (fileChecks file)
+unfolding fileVerdict
+file-first file = refl
+
+-- a table behind the file's
+behind-file : (file : Bytes) (cs : List Check) (number : ℕ) → AboveZero cs → number ≡ numberOf (then (fileVerdict file) (firstFailing cs))
+    → Follows number (fileChecks file ++ cs)
+behind-file file cs number above e =
+    follows number (fileChecks file ++ cs) (above-both (fileChecks file) cs (file-above file) above)
+    (e ∙ rw (file-first file) (ap numberOf (sym (joined (fileChecks file) cs))))
+
+-- ---- the sheet
+
+lines-above : (n : ℕ) (s : Bytes) → AboveZero (linesChecks n s)
+unfolding linesChecks
+lines-above zero s = unfold AboveZero isZero in (refl, tt)
+lines-above (suc n) [] = unfold AboveZero in tt
+lines-above (suc n) (b ∷ bs) =
+    above-both (lineChecks (b ∷ bs)) (linesChecks n (afterLine (b ∷ bs)))
+    (unfold lineChecks AboveZero isZero in (refl, (refl, (refl, (refl, (refl, tt)))))) (lines-above n (afterLine (b ∷ bs)))
+
+lines-first : (n : ℕ) (s : Bytes) → linesVerdict n s ≡ firstFailing (linesChecks n s)
+unfolding linesVerdict linesChecks
+lines-first zero [] = unfold firstFailing failIf fails in refl
+lines-first zero (b ∷ bs) = sym (first-fails 24 (0 below length (b ∷ bs)) [] (omega arith))
+lines-first (suc n) [] = unfold firstFailing in refl
+lines-first (suc n) (b ∷ bs) =
+    ap (then (firstFailing (lineChecks (b ∷ bs)))) (lines-first n (afterLine (b ∷ bs)))
+    ∙ sym (joined (lineChecks (b ∷ bs)) (linesChecks n (afterLine (b ∷ bs))))
+
+sheet-above : (sheet : Bytes) → AboveZero (sheetChecks sheet)
+unfolding sheetChecks
+sheet-above sheet = lines-above 64 sheet
+
+-- the sheet's verdict is its table's first failing check
+pub sheet-first : (sheet : Bytes) → sheetVerdict sheet ≡ firstFailing (sheetChecks sheet)
+unfolding sheetVerdict sheetChecks
+sheet-first sheet = lines-first 64 sheet
+
+by-sheet : (sheet : Bytes) (number : ℕ) → number ≡ numberOf (sheetVerdict sheet) → Follows number (sheetChecks sheet)
+by-sheet sheet number e = follows number (sheetChecks sheet) (sheet-above sheet) (e ∙ ap numberOf (sheet-first sheet))
+
+-- ---- a lookup
+
+-- the number of an answer is that of a table
+abbrev OfTable : GeoKey → List Check → Type 0
+OfTable g cs = geokeyNumbers g .number ≡ numberOf (firstFailing cs)
+
+behind : (cs ds : List Check) (g : GeoKey) → OfTable g ds → OfTable (answerIf (firstFailing cs) g) (cs ++ ds)
+behind cs ds g e = decide (firstFailing cs) ∙ ap numberOf (sym (joined cs ds))
+  where
+    decide : (v : Verdict) → geokeyNumbers (answerIf v g) .number ≡ numberOf (then v (firstFailing ds))
+    decide Passes = unfold answerIf then in e
+    decide (Fails n) = unfold answerIf then geokeyNumbers numberOf in refl
+
+of-chosen : (b : Bool) (g h : GeoKey) (cs ds : List Check) → OfTable g cs → OfTable h ds → OfTable (either b g h) (chosen b cs ds)
+unfolding either chosen
+of-chosen true g h cs ds x y = x
+of-chosen false g h cs ds x y = y
+
+-- one table alone, and what it lets through has the number 0
+alone : (cs : List Check) (g : GeoKey) → geokeyNumbers g .number ≡ 0 → OfTable (answerIf (firstFailing cs) g) cs
+alone cs g e = decide (firstFailing cs)
+  where
+    decide : (v : Verdict) → geokeyNumbers (answerIf v g) .number ≡ numberOf v
+    decide Passes = unfold answerIf numberOf in e
+    decide (Fails n) = unfold answerIf geokeyNumbers numberOf in refl
+
+-- a first check of what was found
+found-first : (n : ℕ) (cs : List Check) (g : GeoKey) → OfTable g cs → OfTable g ((n, not-so true) ∷ cs)
+unfolding firstFailing failIf fails
+found-first n cs g e = e
+
+double-table : (entry parameters : Bytes) → OfTable (doubleIn entry parameters) (doubleChecks entry parameters)
+unfolding doubleIn geokeyNumbers
+double-table entry parameters = alone (doubleChecks entry parameters) _ refl
+
+text-table : (entry : Bytes) (at : ℕ) (parameters : Bytes) → OfTable (textIn entry at parameters) (textChecks entry parameters)
+unfolding textIn geokeyNumbers
+text-table entry at parameters = alone (textChecks entry parameters) _ refl
+
+in-parameters : (s entry : Bytes) (place : Option ℕ) → OfTable (inParameters s entry place) (parameterChecks s entry place)
+unfolding inParameters parameterChecks valueChecks isSome
+in-parameters s entry none = unfold geokeyNumbers numberOf firstFailing failIf fails in refl
+in-parameters s entry (some at) =
+    let parameters : Bytes = payloadAt s at in
+    found-first 45 _ _
+    (of-chosen (eqb (locationOf entry) 34736) (doubleIn entry parameters) (textIn entry at parameters) _ _
+    (double-table entry parameters) (text-table entry at parameters))
+
+value-table : (v : ℕ) → OfTable (Value v) []
+unfolding geokeyNumbers numberOf firstFailing
+value-table v = refl
+
+from-entry : (s : Bytes) (entry : Option Bytes) → OfTable (fromEntry s entry) ((42, not-so (isSome entry)) ∷ entryTable s entry)
+unfolding fromEntry entryTable isSome
+from-entry s none = unfold geokeyNumbers numberOf firstFailing failIf fails in refl
+from-entry s (some entry) =
+    found-first 42 _ _
+    (behind (entryChecks entry) _ _
+    (of-chosen (eqb (locationOf entry) 0) _ _ [] _ (value-table _) (in-parameters s entry (projectionPlace s (locationOf entry)))))
+
+from-directory : (s : Bytes) (key : ℕ) (place : Option ℕ)
+    → OfTable (fromDirectory s key place) ((40, not-so (isSome place)) ∷ directoryTable s key place)
+unfolding fromDirectory directoryTable isSome
+from-directory s key none = unfold geokeyNumbers numberOf firstFailing failIf fails in refl
+from-directory s key (some at) =
+    found-first 40 _ _ (behind (directoryChecks (payloadAt s at)) _ _ (from-entry s (entryOf (payloadAt s at) key)))
+
+looked-up : (s : Bytes) (key : ℕ) → OfTable (lookup s key) (fileChecks s ++ lookupChecks s key)
+unfolding lookup lookupChecks fileVerdict
+looked-up s key = behind (fileChecks s) _ _ (from-directory s key (projectionPlace s 34735))
+
+chosen-above : (b : Bool) (cs ds : List Check) → AboveZero cs → AboveZero ds → AboveZero (chosen b cs ds)
+unfolding chosen
+chosen-above true cs ds h k = h
+chosen-above false cs ds h k = k
+
+value-above : (s entry : Bytes) (place : Option ℕ) → AboveZero (valueChecks s entry place)
+unfolding valueChecks AboveZero isZero
+value-above s entry none = tt
+value-above s entry (some at) = chosen-above (eqb (locationOf entry) 34736) _ _ (refl, tt) (refl, tt)
+
+entry-above : (s : Bytes) (entry : Option Bytes) → AboveZero (entryTable s entry)
+unfolding entryTable parameterChecks AboveZero isZero
+entry-above s none = tt
+entry-above s (some entry) =
+    let place : Option ℕ = projectionPlace s (locationOf entry) in
+    above-both (entryChecks entry) (chosen (eqb (locationOf entry) 0) [] (parameterChecks s entry place)) (refl, (refl, tt))
+    (chosen-above (eqb (locationOf entry) 0) [] (parameterChecks s entry place) tt (refl, value-above s entry place))
+
+directory-above : (s : Bytes) (key : ℕ) (place : Option ℕ) → AboveZero (directoryTable s key place)
+unfolding directoryTable AboveZero isZero
+directory-above s key none = tt
+directory-above s key (some at) =
+    let entry : Option Bytes = entryOf (payloadAt s at) key in
+    above-both (directoryChecks (payloadAt s at)) ((42, not-so (isSome entry)) ∷ entryTable s entry) (refl, tt) (refl, entry-above s entry)
+
+lookup-above : (s : Bytes) (key : ℕ) → AboveZero (lookupChecks s key)
+unfolding lookupChecks AboveZero isZero
+lookup-above s key = (refl, directory-above s key (projectionPlace s 34735))
+
+-- ---- a release
+
+room-number : (v : Verdict) (short? : Bool) (m : ℕ) (out : Bytes) (o : Outcome) → releasedNumbers (o .0) .number ≡ 0
+    → releasedNumbers (refuseOr v out (shortOr short? m out o) .0) .number ≡ numberOf (then v (failIf short? 30 Passes))
+unfolding refuseOr shortOr releasedNumbers numberOf then failIf
+room-number (Fails n) short? m out o h = refl
+room-number Passes true m out o h = refl
+room-number Passes false m out o h = h
+
+then-then : (u v w : Verdict) → then (then u v) w ≡ then u (then v w)
+unfolding then
+then-then Passes v w = refl
+then-then (Fails n) v w = refl
+
+abbrev roomChecks : Bytes → Bytes → Bytes → List Check
+roomChecks sheet file out = (30, length out below needed sheet file) ∷ []
+
+behind-sheet : (sheet file out : Bytes)
+    → then (sheetVerdict sheet) (firstFailing (roomChecks sheet file out)) ≡ firstFailing (sheetChecks sheet ++ roomChecks sheet file out)
+behind-sheet sheet file out = rw (sheet-first sheet) (sym (joined (sheetChecks sheet) (roomChecks sheet file out)))
+
+released-number : (file sheet out : Bytes) → releasedNumbers (release sheet file out .0) .number
+    ≡ numberOf (then (fileVerdict file) (firstFailing (sheetChecks sheet ++ roomChecks sheet file out)))
+unfolding release roomOr
+released-number file sheet out =
+    room-number (then (fileVerdict file) (sheetVerdict sheet)) (ltb (length out) (needed sheet file)) (needed sheet file) out
+    (accepted (publicOf sheet file) (length out)) (unfold accepted releasedNumbers in refl)
+    ∙ ap numberOf
+    (then-then (fileVerdict file) (sheetVerdict sheet) (failIf (ltb (length out) (needed sheet file)) 30 Passes)
+    ∙ ap (then (fileVerdict file)) (unfold firstFailing fails in behind-sheet sheet file out))
+
+-- ---- all of them
+
+each-number : EachNumber
+unfolding lasCheckFile lasCheckSheet lasReadHeader lasVlrStep lasPointAt lasDecode lasEncode lasClassKept lasRecordKept lasGeokeyFind lasRelease
+    header.headerRead stepOf pointAtOf points.decoded encoding.encoded points.decodeChecks encoding.encodeChecks releaseChecks AboveZero isZero
+each-number =
+    record {
+      check-file = λ file. follows (numberOf (fileVerdict file)) (fileChecks file) (file-above file) (ap numberOf (file-first file));
+      check-sheet = λ sheet. by-sheet sheet (numberOf (sheetVerdict sheet)) refl;
+      read-header =
+          λ file. follows _ (fileChecks file) (file-above file) (header-number (fileVerdict file) _ ∙ ap numberOf (file-first file));
+      vlr-step = λ file index position. behind-file file (stepChecks file index position) _ (refl, tt) (step-number _ _ _);
+      point-at = λ file index. behind-file file (pointChecks file index) _ (refl, tt) (point-number _ _ _);
+      decode = λ format len bytes. follows _ (points.decodeChecks format len bytes) (refl, tt) (decoded-number _ _);
+      encode = λ format len p room. follows _ (encoding.encodeChecks format len (givenPoint p) room) (refl, (refl, tt)) (encoded-number _ _ room);
+      class-kept = λ sheet class. by-sheet sheet _ (kept-number (sheetVerdict sheet) _);
+      record-kept = λ sheet user id. by-sheet sheet _ (kept-number (sheetVerdict sheet) _);
+      geokey-find =
+          λ file key.
+          follows _ (fileChecks file ++ lookupChecks file key)
+          (above-both (fileChecks file) (lookupChecks file key) (file-above file) (lookup-above file key)) (looked-up file key);
+      release =
+          λ file sheet out.
+          behind-file file (sheetChecks sheet ++ roomChecks sheet file out) _
+          (above-both (sheetChecks sheet) (roomChecks sheet file out) (sheet-above sheet) (refl, tt)) (released-number file sheet out);
+    }
+
+pub demand1 : Demand1
+demand1 = record { nothing-changed = nothing-changed; tables = table-laws; each-number = each-number }

@@ -1,0 +1,76 @@
+-- Demand 1: a refusal changes nothing lent, and each number is given exactly under its own condition where no earlier one holds.
+-- `lasCoordinate` and `lasLevel` cannot refuse. What the program alone gives, 50 and 51, is the first failing check of `inputChecks`: the
+-- two laws of tables say when.
+-- Assumes nothing.
+use mathlib.Core.Path.{_≡_}
+use mathlib.Core.Logic.{_↔_}
+use Prim.Native.Nat.{ℕ, suc}
+use mathlib.Core.Bool.{false}
+use mathlib.Core.List.{List, _++_}
+use Rattle.fields.specs.Bytes.{Bytes}
+use Rattle.fields.specs.Checks.{Check, firstFailing, AllClear}
+use Rattle.fields.specs.declared.Verdict.the-variants.{Passes, Fails}
+use Rattle.points.specs.declared.Point.{Point}
+use Rattle.points.specs.Points.{decodeChecks}
+use Rattle.points.specs.Encoding.{encodeChecks, encoded}
+use Rattle.lasfile.specs.FileChecks.{fileChecks}
+use Rattle.reader.specs.Steps.{stepChecks}
+use Rattle.reader.specs.OnePoint.{pointChecks}
+use Rattle.publicpart.specs.Release.{release}
+use Rattle.capi.specs.PointAnswers.{givenPoint}
+use Rattle.capi.specs.declared.point.«las_point».{«las_point»}
+use Rattle.capi.specs.Interface.{lasCheckFile, lasCheckSheet, lasReadHeader, lasVlrStep, lasPointAt, lasDecode, lasEncode, lasClassKept, lasRecordKept, lasGeokeyFind, lasRelease}
+use Rattle.theorems.specs.Tables.{Given, Follows, sheetChecks, lookupChecks, releaseChecks}
+use Rattle.theorems.specs.ZeroWhereAccepted.{isReleased}
+
+-- a refusal leaves the lent bytes as they were
+pub record NothingChanged : Type 0 where
+  -- the room of an encoding that gives a number
+  pub encode : (format len : ℕ) (q : Point) (room : Bytes) (n : ℕ)
+      → encoded format len q room .0 ≡ Fails n → encoded format len q room .1 ≡ room
+  -- the output of a release that is not accepted, 30 too
+  pub release : (sheet file out : Bytes) → isReleased (release sheet file out .0) ≡ false → release sheet file out .1 ≡ out
+  -- the same of the exported functions, by the number that they give
+  pub las-encode : (format len : ℕ) (p : «las_point») (room : Bytes) (n : ℕ)
+      → lasEncode format len p room .0 ≡ suc n → lasEncode format len p room .1 ≡ room
+  pub las-release : (file sheet out : Bytes) (n : ℕ)
+      → lasRelease file sheet out .0 .number ≡ suc n → lasRelease file sheet out .1 ≡ out
+
+-- any table of checks
+pub record TableLaws : Type 0 where
+  -- gives a number exactly where its check fails and none before it does
+  pub given : (cs : List Check) (n : ℕ) → (firstFailing cs ≡ Fails n) ↔ Given cs n
+  -- passes exactly where every check is clear
+  pub passes : (cs : List Check) → (firstFailing cs ≡ Passes) ↔ AllClear cs
+
+-- each exported function gives the numbers of one table
+pub record EachNumber : Type 0 where
+  -- 1 to 10
+  pub check-file : (file : Bytes) → Follows (lasCheckFile file) (fileChecks file)
+  -- 20 to 24
+  pub check-sheet : (sheet : Bytes) → Follows (lasCheckSheet sheet) (sheetChecks sheet)
+  -- 1 to 10
+  pub read-header : (file : Bytes) → Follows (lasReadHeader file .number) (fileChecks file)
+  -- 1 to 10, then 18
+  pub vlr-step : (file : Bytes) (index position : ℕ)
+      → Follows (lasVlrStep file index position .number) (fileChecks file ++ stepChecks file index position)
+  -- 1 to 10, then 11
+  pub point-at : (file : Bytes) (index : ℕ) → Follows (lasPointAt file index .number) (fileChecks file ++ pointChecks file index)
+  -- 12
+  pub decode : (format len : ℕ) (bytes : Bytes) → Follows (lasDecode format len bytes .number) (decodeChecks format len bytes)
+  -- 12, then 13
+  pub encode : (format len : ℕ) (p : «las_point») (room : Bytes)
+      → Follows (lasEncode format len p room .0) (encodeChecks format len (givenPoint p) room)
+  -- 20 to 24
+  pub class-kept : (sheet : Bytes) (class : ℕ) → Follows (lasClassKept sheet class .number) (sheetChecks sheet)
+  -- 20 to 24
+  pub record-kept : (sheet user : Bytes) (id : ℕ) → Follows (lasRecordKept sheet user id .number) (sheetChecks sheet)
+  -- 1 to 10, then 40 to 46
+  pub geokey-find : (file : Bytes) (key : ℕ) → Follows (lasGeokeyFind file key .number) (fileChecks file ++ lookupChecks file key)
+  -- 1 to 10, then 20 to 24, then 30
+  pub release : (file sheet out : Bytes) → Follows (lasRelease file sheet out .0 .number) (releaseChecks sheet file out)
+
+pub record Demand1 : Type 0 where
+  pub nothing-changed : NothingChanged
+  pub tables : TableLaws
+  pub each-number : EachNumber
