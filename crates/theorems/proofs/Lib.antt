@@ -3,6 +3,7 @@ pub mod TableLaws
 pub mod Demand1
 pub mod Demand3
 pub mod NeverLonger
+pub mod Recognised
 pub mod ReleasedFile
 pub mod BoundsBack
 pub mod BoundsOfKept

@@ -2,6 +2,7 @@ pub mod Terms
 pub mod Tables
 pub mod Demand1
 pub mod Demand3
+pub mod Recognised
 pub mod ReleasedFile
 pub mod Coordinates
 pub mod BoundsOfKept
