@@ -14,3 +14,4 @@ pub mod sheet
 pub mod scaling
 pub mod reader
 pub mod capi
+pub mod Instances

@@ -31,7 +31,7 @@ use Rattle.capi.specs.Answers.{releasedNumbers}
 use Rattle.theorems.specs.Samples.{fieldsOf, fourNumbers, samples, SamplesHold}
 
 -- where this is unfolded, every definition of the release is
-pub computed : Unit {0}
+unfoldable pub computed : Unit {0}
 unfolding kept consIf some total part num bytesOf same join pieces cut padded fails failIf firstFailing then numberOf formatSize timePlace colourPlace classOf bits numberAt pointOf shape decodeChecks fieldsIf decoded payloadLength recordOf sizeOf places walk walkEnd recordBytes recordLen recordsBytes doubleAt scalingIn scalingOf within goodScale goodOffset goodScaling coordinateOf coordinateBits boundsOf headerSize pointOffset recordCount format recordLength pointCount recordsEnd fileVerdict kind lineLength lowest highest userID recordID firstLine afterLine linesFrom lines inOrder lineChecks linesVerdict sheetVerdict containsClass namesRecord keepsClass keepsPoint keepsRecord numbersBytes upFrom returnOf bins stored largest smallest extremesOf boundNumbers bounds carriedOf contents restrict publicOf newOffset headOf render releasedNumbers refuseOr shortOr accepted roomOr release toBits ofBits add mul ofInt le
 computed = tt
 

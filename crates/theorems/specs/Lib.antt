@@ -12,3 +12,4 @@ pub mod Visits
 pub mod RoundTrips
 pub mod ZeroWhereAccepted
 pub mod Samples
+pub mod Instances

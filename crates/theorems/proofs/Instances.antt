@@ -1,0 +1,363 @@
+-- The theorems applied to the samples' files, sheets and points: what they ask for is computed, and the rest is their word.
+-- Assumes nothing.
+use mathlib.Core.Path.{_≡_, refl, sym, ap, _∙_}
+use mathlib.Core.Logic.{inl, _↔_}
+use Prim.Native.Nat.{ℕ, zero, suc, _+_, _^_, _≤_, _<_}
+use native.Mathlib.Omega.{arith}
+use mathlib.Core.Bool.{Bool, true, false, _&&_}
+use mathlib.Core.List.{[], _∷_, _++_}
+use lib.Dec.{T, ltb, ltb→lt, lit≤, lit<}
+use lib.ListN.{length, drop}
+use lib.IntN.{ℤ, pos, negsuc, _+ℤ_, _*ℤ_}
+use lib.Ieee.{binary64, ofInt, fin}
+use lib.Ieee.Fits.{and-l, and-r}
+use Rattle.fields.specs.Lists.{total}
+use Rattle.fields.specs.Bytes.{Bytes, AllBytes, part, num, zeros}
+use Rattle.fields.specs.declared.Verdict.the-variants.{Passes, Fails}
+use Rattle.fields.specs.Checks.{not-so, _below_}
+use Rattle.points.specs.Encoding.{InRange, large, encodeChecks, storedIf, encoded}
+use Rattle.points.specs.declared.Decoded.the-variants.{Fields}
+use Rattle.points.specs.Formats.{formatSize}
+use Rattle.points.specs.Points.{decoded}
+use Rattle.scaling.specs.Coordinate.{coordinateOf}
+use Rattle.scaling.specs.Scaling.{scalingOf, goodScaling}
+use Rattle.lasfile.specs.FileChecks.{fileVerdict}
+use Rattle.lasfile.specs.HeaderFields.{headerSize, recordCount}
+use Rattle.lasfile.specs.Records.{places, recordLen}
+use Rattle.lasfile.specs.ReadBack.{SoundRecord}
+use Rattle.sheet.specs.Sheet.{sheetVerdict, lines}
+use Rattle.sheet.specs.Keeping.{keepsClass}
+use Rattle.publicpart.specs.Public.{publicOf}
+use Rattle.publicpart.specs.declared.Answer.the-variants.{Released}
+use Rattle.publicpart.specs.Release.{release}
+use Rattle.capi.specs.Interface.{lasCheckFile, lasCheckSheet, lasReadHeader, lasVlrStep, lasPointAt, lasDecode, lasEncode, lasClassKept, lasRecordKept, lasGeokeyFind, lasRelease}
+use Rattle.reader.specs.Header as header
+use Rattle.reader.specs.Header.{headerRead}
+use Rattle.reader.specs.Steps.{recordIf, stepOf}
+use Rattle.reader.specs.OnePoint.{pointIf, pointAtOf}
+use Rattle.sheet.specs.KeptAnswers.{keptUnder}
+use Rattle.geokeys.specs.GeoKeys.{first, orLater, isProjection, projectionPlace, fromDirectory, answerIf, lookup}
+use Rattle.capi.specs.Answers.{keptNumbers}
+use Rattle.capi.specs.HeaderAnswers.{headerNumbers, noHeader}
+use Rattle.capi.specs.RecordAnswers.{recordNumbers, noRecord, geokeyNumbers}
+use Rattle.capi.specs.PointAnswers.{pointNumbers, noPoint, decodedNumbers}
+use Rattle.theorems.specs.ZeroWhereAccepted.{isReleased}
+use Rattle.theorems.specs.Terms.{Good, needed, Accepted}
+use Rattle.theorems.specs.Coordinates.{X, Fits32, Times, Exact}
+use Rattle.theorems.specs.Recognised.{OutputUnder, GivesItself}
+use Rattle.theorems.specs.Demand1.{NothingChanged, EachNumber}
+use Rattle.theorems.specs.Samples.{sheet3, sheet4, sheet5, sheet6, point7, used, half, ten, file9}
+use Rattle.theorems.specs.Instances.{other9, filled, output9, fields7, numbers7, oneRecord, sheet64, Demand1Met, Demand3Met, RecognisedMet, ReleasedFileMet, BoundsOfKeptMet, SheetsMet, FilesMet, VisitsMet, RoundTripsMet, CoordinatesMet}
+use Rattle.theorems.proofs.Samples.{computed}
+use Rattle.theorems.proofs.Demand1.{demand1}
+use Rattle.theorems.proofs.Demand3.{demand3}
+use Rattle.theorems.proofs.Recognised.{recognised}
+use Rattle.theorems.proofs.ReleasedFile.{complete}
+use Rattle.theorems.proofs.NeverLonger.{never-longer}
+use Rattle.theorems.proofs.BoundsOfKept.{bounds-of-kept}
+use Rattle.theorems.proofs.Files.{files}
+use Rattle.theorems.proofs.sheet.SheetLaws.{lines-are}
+use Rattle.theorems.proofs.sheet.KeepingLaws.{kept}
+use Rattle.theorems.proofs.reader.Visits.{stepping}
+use Rattle.theorems.proofs.points.RoundTrips.{round-trips}
+use Rattle.theorems.proofs.scaling.CoordinateTheorems.{coordinates}
+use Rattle.theorems.proofs.capi.OwnBits.{own-bits}
+
+-- ---- what the theorems ask for
+
+all-small : Bytes → Bool
+all-small [] = true
+all-small (b ∷ bs) = ltb b 256 && all-small bs
+
+all-bytes : (s : Bytes) → T (all-small s) → AllBytes s
+unfolding all-small
+all-bytes [] t i = omega arith
+all-bytes (b ∷ bs) t zero = ltb→lt b 256 (and-l (ltb b 256) (all-small bs) t)
+all-bytes (b ∷ bs) t (suc i) = all-bytes bs (and-r (ltb b 256) (all-small bs) t) i
+
+lengths : (length file9 ≡ 347) × (length other9 ≡ 350)
+unfolding computed
+lengths = (refl, refl)
+
+good9 : Good file9
+unfolding computed all-small
+good9 = record { bytes = all-bytes file9 tt; passes = refl }
+
+other-good9 : Good other9
+unfolding computed all-small
+other-good9 = record { bytes = all-bytes other9 tt; passes = refl }
+
+sheet-passes9 : sheetVerdict sheet3 ≡ Passes
+unfolding computed
+sheet-passes9 = refl
+
+one-public-part : publicOf sheet3 file9 ≡ publicOf sheet3 other9
+unfolding computed
+one-public-part = refl
+
+needed9 : (needed sheet3 file9 ≡ 255) × (needed sheet3 other9 ≡ 255)
+unfolding computed
+needed9 = (refl, refl)
+
+accepted9 : Accepted sheet3 file9 (filled 7) 255 1 0
+unfolding computed
+accepted9 = record { bytes = good9 .bytes; answer = refl }
+
+-- ---- demand 3
+
+pub demand3-met : Demand3Met
+demand3-met =
+    record {
+      files-differ = λ e. omega (arith, ap length e, lengths .0, lengths .1);
+      outputs-differ = λ e. let z : _≡_ {A = ℕ} 7 9 = cc in omega arith;
+      same = demand3 .exactly sheet3 file9 other9 (filled 7) (filled 9) sheet-passes9 good9 other-good9 refl room other-room .1 one-public-part;
+      one-public-part =
+          demand3 .exactly sheet3 file9 other9 (filled 7) (filled 9) sheet-passes9 good9 other-good9 refl room other-room .0
+          (demand3 .exactly sheet3 file9 other9 (filled 7) (filled 9) sheet-passes9 good9 other-good9 refl room other-room .1 one-public-part);
+      short = rw (needed9 .0) at (demand3 .short sheet3 file9 other9 (used 254) (zeros 254) sheet-passes9 good9 other-good9 refl one-public-part less);
+      again-shorter = demand3 .again sheet3 file9 (filled 7) (used 260) 255 1 0 accepted9 (lit≤ tt);
+      again-longer = demand3 .again sheet3 file9 (filled 7) (used 400) 255 1 0 accepted9 (lit≤ tt);
+      again-same = demand3 .again-same sheet3 file9 (filled 7) (filled 9) 255 1 0 accepted9 refl;
+    }
+  where
+    room : needed sheet3 file9 ≤ length (filled 7)
+    room = omega (arith, needed9 .0)
+
+    other-room : needed sheet3 other9 ≤ length (filled 9)
+    other-room = omega (arith, needed9 .1)
+
+    less : length (used 254) < needed sheet3 file9
+    less = omega (arith, needed9 .0)
+
+-- ---- a released file
+
+pub released-file-met : ReleasedFileMet
+released-file-met =
+    record {
+      holds = complete .holds sheet3 file9 (filled 7) 255 1 0 accepted9;
+      counted = complete .counted sheet3 file9 (filled 7) 255 1 0 accepted9;
+      rest = complete .rest sheet3 file9 (filled 7) 255 1 0 accepted9;
+      no-longer = never-longer .no-longer sheet3 file9 (filled 7) 255 1 0 accepted9;
+      passes = never-longer .passes sheet3 file9 (filled 7) 255 1 0 accepted9;
+      room = never-longer .room sheet3 file9 (used 347) sheet-passes9 good9 (omega (arith, lengths .0));
+    }
+
+-- under the empty sheet no point is kept
+nothing9 : Accepted [] file9 (used 227) 227 0 0
+unfolding computed
+nothing9 = record { bytes = good9 .bytes; answer = refl }
+
+pub bounds-of-kept-met : BoundsOfKeptMet
+bounds-of-kept-met =
+    record {
+      bounded = bounds-of-kept .bounded sheet3 file9 (filled 7) 255 1 0 accepted9 (lit≤ tt) X;
+      no-points = bounds-of-kept .no-points [] file9 (used 227) 227 0 0 nothing9 refl;
+      binned = bounds-of-kept .binned sheet3 file9 (filled 7) 255 1 0 accepted9;
+    }
+
+output-bytes9 : AllBytes output9
+unfolding computed all-small
+output-bytes9 = all-bytes output9 tt
+
+output-length9 : length (filled 9) ≡ length output9
+unfolding computed
+output-length9 = refl
+
+pub recognised-met : RecognisedMet
+recognised-met =
+    record {
+      gives-itself = iff .0 came-out;
+      came-out = iff .1 (iff .0 came-out);
+    }
+  where
+    came-out : OutputUnder sheet3 output9
+    came-out = record { source = file9; room = filled 7; n = 255; points = 1; records = 0; accepted = accepted9; is = inl refl }
+
+    iff : OutputUnder sheet3 output9 ↔ GivesItself sheet3 output9 (filled 9)
+    iff = recognised .recognised sheet3 output9 (filled 9) output-bytes9 output-length9
+
+-- ---- demand 1
+
+-- what the functions give, by computing
+pub record Refused : Type 0 where
+  pub encode : encoded 0 20 fields7 (used 19) .0 ≡ Fails 12
+  pub las-encode : lasEncode 0 20 numbers7 (used 19) .0 ≡ 12
+  pub release : isReleased (release sheet3 file9 (used 254) .0) ≡ false
+  pub las-release : lasRelease file9 sheet3 (used 254) .0 .number ≡ 30
+  pub check-file : lasCheckFile (zeros 226) ≡ 1
+  pub check-sheet : lasCheckSheet sheet4 ≡ 23
+  pub read-header : lasReadHeader (zeros 227) .number ≡ 2
+  pub vlr-step : lasVlrStep file9 1 291 .number ≡ 18
+  pub point-at : lasPointAt file9 2 .number ≡ 11
+  pub decode : lasDecode 0 20 (zeros 19) .number ≡ 12
+  pub class-kept : lasClassKept sheet5 2 .number ≡ 22
+  pub record-kept : lasRecordKept sheet6 [] 0 .number ≡ 20
+  pub geokey-find : lasGeokeyFind file9 1024 .number ≡ 40
+  pub accepts : lasRelease file9 sheet3 (used 255) .0 .number ≡ 0
+
+refused : Refused
+unfolding computed encodeChecks large storedIf encoded header.fieldsIf headerRead stepOf recordIf pointAtOf pointIf keptUnder
+    projectionPlace first orLater isProjection fromDirectory answerIf lookup
+    headerNumbers noHeader recordNumbers noRecord pointNumbers noPoint decodedNumbers keptNumbers geokeyNumbers isReleased
+    lasCheckFile lasCheckSheet lasReadHeader lasVlrStep lasPointAt lasDecode lasEncode lasClassKept lasRecordKept lasGeokeyFind lasRelease
+refused =
+    record {
+      encode = refl;
+      las-encode = refl;
+      release = refl;
+      las-release = refl;
+      check-file = refl;
+      check-sheet = refl;
+      read-header = refl;
+      vlr-step = refl;
+      point-at = refl;
+      decode = refl;
+      class-kept = refl;
+      record-kept = refl;
+      geokey-find = refl;
+      accepts = refl;
+    }
+
+pub demand1-met : Demand1Met
+demand1-met =
+    let changed : NothingChanged = demand1 .nothing-changed in
+    let numbers : EachNumber = demand1 .each-number in
+    record {
+      encode = changed .encode 0 20 fields7 (used 19) 12 (refused .encode);
+      las-encode = changed .las-encode 0 20 numbers7 (used 19) 11 (refused .las-encode);
+      release = changed .release sheet3 file9 (used 254) (refused .release);
+      las-release = changed .las-release file9 sheet3 (used 254) 29 (refused .las-release);
+      table = demand1 .tables .given ((51, not-so true) ∷ (50, 32768 below 40000) ∷ []) 50 .0 (unfold computed in refl);
+      check-file = numbers .check-file (zeros 226) .refuses 0 .0 (refused .check-file);
+      check-sheet = numbers .check-sheet sheet4 .refuses 22 .0 (refused .check-sheet);
+      read-header = numbers .read-header (zeros 227) .refuses 1 .0 (refused .read-header);
+      vlr-step = numbers .vlr-step file9 1 291 .refuses 17 .0 (refused .vlr-step);
+      point-at = numbers .point-at file9 2 .refuses 10 .0 (refused .point-at);
+      decode = numbers .decode 0 20 (zeros 19) .refuses 11 .0 (refused .decode);
+      encode-number = numbers .encode 0 20 numbers7 (used 19) .refuses 11 .0 (refused .las-encode);
+      class-kept = numbers .class-kept sheet5 2 .refuses 21 .0 (refused .class-kept);
+      record-kept = numbers .record-kept sheet6 [] 0 .refuses 19 .0 (refused .record-kept);
+      geokey-find = numbers .geokey-find file9 1024 .refuses 39 .0 (refused .geokey-find);
+      release-number = numbers .release file9 sheet3 (used 254) .refuses 29 .0 (refused .las-release);
+      accepts = numbers .release file9 sheet3 (used 255) .accepts .0 (refused .accepts);
+    }
+
+-- ---- sheets
+
+pub sheets-met : SheetsMet
+sheets-met =
+    record {
+      whole = lines-are .whole sheet3 sheet-passes9;
+      class = kept .class sheet3 2 .0 (unfold computed in refl);
+      by-lines = kept .by-lines sheet64 (sheet64 ++ 0x4B ∷ []) (unfold computed in refl) .0;
+    }
+
+-- ---- files and their records
+
+sound-record : SoundRecord 2 oneRecord
+unfolding computed
+sound-record =
+    record {
+      user = record { short = lit≤ tt; back = refl };
+      id = lit< tt;
+      description = record { short = lit≤ tt; back = refl };
+      payload = lit< tt;
+    }
+
+total-one : 5 + total (recordLen 2) (oneRecord ∷ []) ≡ 61
+unfolding computed
+total-one = refl
+
+pub files-met : FilesMet
+files-met =
+    record {
+      passed = files .passes file9 .0 (good9 .passes);
+      passes = files .passes file9 .1 (files .passes file9 .0 (good9 .passes));
+      walk-back = files .walk-back 2 (oneRecord ∷ []) (sound-record, tt) 5 (used 5) (used 3) refl;
+      walk-end-back = files .walk-end-back 2 (oneRecord ∷ []) (sound-record, tt) 5 (used 5) (used 3) refl ∙ total-one;
+    }
+
+-- one record, at 227
+walk9 : (recordCount file9 ≡ 1) × (headerSize file9 ≡ 227) × (places 2 1 227 file9 ≡ 227 ∷ [])
+unfolding computed
+walk9 = (refl, refl, refl)
+
+pub visits-met : VisitsMet
+visits-met =
+    record {
+      visits = rw (walk9 .0, walk9 .1, walk9 .2) at (stepping .visits file9 (good9 .passes) 0);
+      ends-in-18 = rw (walk9 .0) at (stepping .ends-in-18 file9 (good9 .passes) 291);
+    }
+
+-- ---- points
+
+in-range7 : InRange fields7
+unfolding computed
+in-range7 =
+    record {
+      x = record { sfits = lit< tt };
+      y = record { sfits = lit< tt };
+      z = record { sfits = lit< tt };
+      intensity = lit< tt;
+      class-byte = lit< tt;
+      scan-angle = record { sfits = lit< tt };
+      user-data = lit< tt;
+      source-id = lit< tt;
+      gps-time = lit< tt;
+      red = lit< tt;
+      green = lit< tt;
+      blue = lit< tt;
+    }
+
+point-bytes7 : AllBytes (point7 2)
+unfolding all-small
+point-bytes7 = all-bytes (point7 2) tt
+
+decoded7 : decoded 0 20 (point7 2) ≡ Fields fields7
+unfolding computed
+decoded7 = refl
+
+room7 : drop (formatSize 0) (used 20) ≡ drop (formatSize 0) (point7 2)
+unfolding computed
+room7 = refl
+
+encoded7 : encoded 0 20 fields7 (used 20) .0 ≡ Passes
+unfolding computed encodeChecks large storedIf encoded
+encoded7 = refl
+
+pub round-trips-met : RoundTripsMet
+round-trips-met =
+    record {
+      encode-after-decode = round-trips .encode-after-decode 0 20 (point7 2) (used 20) fields7 point-bytes7 decoded7 refl room7;
+      decode-after-encode = round-trips .decode-after-encode 0 20 (used 20) fields7 in-range7 encoded7;
+    }
+
+-- ---- coordinates
+
+scaled9 : T (goodScaling (scalingOf file9))
+unfolding computed
+scaled9 = tt
+
+small : Fits32 (negsuc 0) × Fits32 (pos 3)
+unfolding Fits32
+small = (lit≤ tt, lit≤ tt)
+
+doubles9 : (num (part 131 8 file9) ≡ num half) × (num (part 139 8 file9) ≡ num half) × (num (part 147 8 file9) ≡ num half)
+    × (num (part 155 8 file9) ≡ num ten) × (num (part 163 8 file9) ≡ num ten) × (num (part 171 8 file9) ≡ num ten)
+unfolding computed
+doubles9 = (refl, refl, refl, refl, refl, refl)
+
+exact10 : (z : ℤ) → Fits32 z → Times 1 (coordinateOf z (fin false 1 (negsuc 0)) (ofInt binary64 (pos 10))) (z +ℤ pos 10 *ℤ pos (2 ^ 1))
+unfolding Exact
+exact10 = coordinates .exact 1 (fin false 1 (negsuc 0)) (ofInt binary64 (pos 10)) (pos 10) (coordinates .exact-case 1 (pos 10) (lit≤ tt) (lit≤ tt))
+
+pub coordinates-met : CoordinatesMet
+coordinates-met =
+    record {
+      is-finite = coordinates .finite-in-order (scalingOf file9) scaled9 X .is-finite (negsuc 0) (small .0);
+      in-order = coordinates .finite-in-order (scalingOf file9) scaled9 X .in-order (negsuc 0) (pos 3) (small .0) (small .1) (record { le = tt });
+      carried = coordinates .carried file9 (good9 .bytes) scaled9 X;
+      exact = exact10 (negsuc 0) (small .0);
+      scales = own-bits .scales file9 (good9 .bytes) (good9 .passes) ∙ rw (doubles9 .0, doubles9 .1, doubles9 .2);
+      offsets = own-bits .offsets file9 (good9 .bytes) (good9 .passes) ∙ rw (doubles9 .3, doubles9 .4, doubles9 .5);
+    }

@@ -1,0 +1,173 @@
+-- Instances: every theorem that has hypotheses, applied to files, sheets and points that meet them. A statement that an added or stronger
+-- hypothesis has made empty is refused here.
+-- Assumes nothing.
+use mathlib.Core.Path.{_≡_}
+use Prim.Native.Nat.{ℕ, _≤_}
+use mathlib.Core.List.{List, [], _∷_, _++_, map}
+use lib.Dec.{T}
+use lib.ListN.{length, drop, replicate}
+use lib.IntN.{ℤ, pos, negsuc, _+ℤ_, _*ℤ_}
+use lib.Ieee.{Float, binary64, fin, le, ofInt}
+use lib.Ieee.Scale.{finite}
+use mathlib.Core.Bool.{true, false}
+use Rattle.fields.specs.Bytes.{Bytes, part, num, zeros, join}
+use Rattle.fields.specs.Checks.{AllClear, not-so, _below_}
+use Rattle.fields.specs.declared.Verdict.the-variants.{Passes}
+use Rattle.points.specs.declared.Point.{Point}
+use Rattle.points.specs.declared.Decoded.the-variants.{Fields}
+use Rattle.points.specs.Points.{pointOf, decodeChecks, decoded}
+use Rattle.points.specs.Encoding.{encodeChecks, encoded, blank}
+use Rattle.scaling.specs.Coordinate.{coordinateOf}
+use Rattle.scaling.specs.Scaling.{scalingOf}
+use Rattle.lasfile.specs.FileChecks.{fileChecks, fileVerdict}
+use Rattle.lasfile.specs.HeaderFields.{recordCount, headerSize}
+use Rattle.lasfile.specs.Passed.{Passed}
+use Rattle.lasfile.specs.Records.{Record, places, walk, walkEnd, recordsBytes}
+use Rattle.reader.specs.Steps.{stepChecks, recordPlaces, stepOf, visited}
+use Rattle.reader.specs.declared.cursor.Step.the-variants.{Refused}
+use Rattle.reader.specs.OnePoint.{pointChecks}
+use Rattle.sheet.specs.Sheet.{kind, lowest, highest, userID, recordID, lines}
+use Rattle.sheet.specs.Keeping.{keepsClass}
+use Rattle.publicpart.specs.Public.{publicOf}
+use Rattle.publicpart.specs.Release.{release}
+use Rattle.capi.specs.Answers.{releasedNumbers}
+use Rattle.capi.specs.PointAnswers.{givenPoint}
+use Rattle.capi.specs.declared.point.«las_point».{«las_point»}
+use Rattle.capi.specs.Interface.{lasReadHeader, lasDecode, lasEncode, lasRelease}
+use Rattle.theorems.specs.Terms.{OfOutput}
+use Rattle.theorems.specs.Tables.{Given, sheetChecks, lookupChecks, releaseChecks}
+use Rattle.theorems.specs.Demand3.{Same, tooShort, inLength}
+use Rattle.theorems.specs.Recognised.{OutputUnder, GivesItself}
+use Rattle.theorems.specs.ReleasedFile.{pointsKept, Holds, Counted}
+use Rattle.theorems.specs.Coordinates.{Axis, X, axisScale, axisOffset, Times, CarriedBits}
+use Rattle.theorems.specs.BoundsOfKept.{Bounded, Binned}
+use Rattle.theorems.specs.Sheets.{line, SomeLine}
+use Rattle.theorems.specs.Visits.{cursor}
+use Rattle.theorems.specs.Samples.{sheet3, sheet4, sheet5, sheet6, point7, half, ten, used, file9}
+
+-- ---- the data: sample P9's file and sheet, and what is made of them
+
+-- another file with the same public part: three bytes behind the first
+abbrev pub other9 : Bytes
+other9 = file9 ++ 0x01 ∷ 0x02 ∷ 0x03 ∷ []
+
+-- outputs of 300 bytes
+abbrev pub filled : ℕ → Bytes
+filled b = replicate 300 b
+
+-- the output of a release into one of them: 255 bytes and 45 zeros
+abbrev pub output9 : Bytes
+output9 = release sheet3 file9 (filled 7) .1
+
+-- the point of sample P7
+abbrev pub fields7 : Point
+fields7 = pointOf 0 (point7 2)
+
+abbrev pub numbers7 : «las_point»
+numbers7 = lasDecode 0 20 (point7 2)
+
+abbrev pub oneRecord : Record
+oneRecord = record { user = 0x41 ∷ []; id = 7; description = []; payload = 0x01 ∷ 0x02 ∷ [] }
+
+-- a sheet of 64 lines, and the same with one byte more
+abbrev pub sheet64 : Bytes
+sheet64 = join (replicate 64 line)
+
+-- ---- demand 1
+
+pub record Demand1Met : Type 0 where
+  -- a room of 19 bytes is refused and stays
+  pub encode : encoded 0 20 fields7 (used 19) .1 ≡ used 19
+  pub las-encode : lasEncode 0 20 numbers7 (used 19) .1 ≡ used 19
+  -- so does an output of 254 bytes
+  pub release : release sheet3 file9 (used 254) .1 ≡ used 254
+  pub las-release : lasRelease file9 sheet3 (used 254) .1 ≡ used 254
+  -- the program's table gives 50 for a file of 40,000 bytes
+  pub table : Given ((51, not-so true) ∷ (50, 32768 below 40000) ∷ []) 50
+  -- a number of each function
+  pub check-file : Given (fileChecks (zeros 226)) 1
+  pub check-sheet : Given (sheetChecks sheet4) 23
+  pub read-header : Given (fileChecks (zeros 227)) 2
+  pub vlr-step : Given (fileChecks file9 ++ stepChecks file9 1 291) 18
+  pub point-at : Given (fileChecks file9 ++ pointChecks file9 2) 11
+  pub decode : Given (decodeChecks 0 20 (zeros 19)) 12
+  pub encode-number : Given (encodeChecks 0 20 (givenPoint numbers7) (used 19)) 12
+  pub class-kept : Given (sheetChecks sheet5) 22
+  pub record-kept : Given (sheetChecks sheet6) 20
+  pub geokey-find : Given (fileChecks file9 ++ lookupChecks file9 1024) 40
+  pub release-number : Given (releaseChecks sheet3 file9 (used 254)) 30
+  -- and 0
+  pub accepts : AllClear (releaseChecks sheet3 file9 (used 255))
+
+-- ---- demand 3
+
+pub record Demand3Met : Type 0 where
+  -- two different files with one public part, into outputs that differ
+  pub files-differ : file9 ≡ other9 → ⊥
+  pub outputs-differ : filled 7 ≡ filled 9 → ⊥
+  pub same : Same (release sheet3 file9 (filled 7)) (release sheet3 other9 (filled 9))
+  pub one-public-part : publicOf sheet3 file9 ≡ publicOf sheet3 other9
+  -- into 254 bytes
+  pub short : (releasedNumbers (release sheet3 file9 (used 254) .0) ≡ tooShort 255) × (release sheet3 file9 (used 254) .1 ≡ used 254)
+      × (releasedNumbers (release sheet3 other9 (zeros 254) .0) ≡ tooShort 255) × (release sheet3 other9 (zeros 254) .1 ≡ zeros 254)
+  -- again, into a shorter output, a longer one, and one of the same length
+  pub again-shorter : OfOutput sheet3 file9 (filled 7) 255 (λ file. release sheet3 file (used 260) ≡ inLength 255 260 (release sheet3 file9 (filled 7)))
+  pub again-longer : OfOutput sheet3 file9 (filled 7) 255 (λ file. release sheet3 file (used 400) ≡ inLength 255 400 (release sheet3 file9 (filled 7)))
+  pub again-same : OfOutput sheet3 file9 (filled 7) 255 (λ file. release sheet3 file (filled 9) ≡ release sheet3 file9 (filled 7))
+
+-- ---- a released file is known
+
+pub record RecognisedMet : Type 0 where
+  pub gives-itself : GivesItself sheet3 output9 (filled 9)
+  pub came-out : OutputUnder sheet3 output9
+
+-- ---- the released file
+
+pub record ReleasedFileMet : Type 0 where
+  pub holds : OfOutput sheet3 file9 (filled 7) 255 (Holds sheet3 file9)
+  pub counted : Counted sheet3 file9 255 1 0
+  pub rest : (length output9 ≡ 300) × (drop 255 output9 ≡ zeros 45)
+  pub no-longer : 255 ≤ length file9
+  pub passes : OfOutput sheet3 file9 (filled 7) 255 (λ file. fileVerdict file ≡ Passes)
+  pub room : releasedNumbers (release sheet3 file9 (used 347) .0) .number ≡ 0
+
+pub record BoundsOfKeptMet : Type 0 where
+  pub bounded : OfOutput sheet3 file9 (filled 7) 255 (λ out. Bounded file9 out (pointsKept sheet3 file9) X)
+  -- under the empty sheet, as in sample P10
+  pub no-points : OfOutput [] file9 (used 227) 227 (λ out. part 179 48 out ≡ zeros 48)
+  pub binned : OfOutput sheet3 file9 (filled 7) 255 (λ out. Binned file9 out (pointsKept sheet3 file9))
+
+-- ---- sheets, files, points, coordinates
+
+pub record SheetsMet : Type 0 where
+  pub whole : join (lines sheet3) ≡ sheet3
+  pub class : SomeLine (lines sheet3) (λ l. (kind l ≡ 1) × (lowest l ≤ 2) × (2 ≤ highest l))
+  pub by-lines : (c : ℕ) → keepsClass sheet64 c ≡ keepsClass (sheet64 ++ 0x4B ∷ []) c
+
+pub record FilesMet : Type 0 where
+  pub passed : Passed file9
+  pub passes : fileVerdict file9 ≡ Passes
+  pub walk-back : walk 2 1 5 (used 5 ++ (recordsBytes 2 (oneRecord ∷ []) ++ used 3)) ≡ oneRecord ∷ []
+  -- a header of 54 bytes and a payload of 2
+  pub walk-end-back : walkEnd 2 1 5 (used 5 ++ (recordsBytes 2 (oneRecord ∷ []) ++ used 3)) ≡ 61
+
+pub record VisitsMet : Type 0 where
+  pub visits : visited 2 file9 (cursor 0 227) ≡ recordPlaces file9 227 ∷ []
+  pub ends-in-18 : stepOf file9 1 291 ≡ Refused 18
+
+pub record RoundTripsMet : Type 0 where
+  pub encode-after-decode : encoded 0 20 fields7 (used 20) ≡ (Passes, point7 2)
+  pub decode-after-encode : decoded 0 20 (encoded 0 20 fields7 (used 20) .1) ≡ Fields (blank 0 fields7)
+
+-- the double of a scale 0.5 or an offset 10 of the file
+abbrev pub at9 : ℤ → Float
+at9 z = coordinateOf z (axisScale X (scalingOf file9)) (axisOffset X (scalingOf file9))
+
+pub record CoordinatesMet : Type 0 where
+  pub is-finite : T (finite (at9 (negsuc 0)))
+  pub in-order : T (le (at9 (negsuc 0)) (at9 (pos 3)))
+  pub carried : CarriedBits file9 X
+  -- 2 times the coordinate of -1 is -1 + 10 · 2
+  pub exact : Times 1 (coordinateOf (negsuc 0) (fin false 1 (negsuc 0)) (ofInt binary64 (pos 10))) (negsuc 0 +ℤ pos 10 *ℤ pos 2)
+  pub scales : lasReadHeader file9 .scale ≡ num half ∷ num half ∷ num half ∷ []
+  pub offsets : lasReadHeader file9 .offset ≡ num ten ∷ num ten ∷ num ten ∷ []
