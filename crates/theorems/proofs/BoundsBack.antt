@@ -1,4 +1,5 @@
--- A file that has the bounds of some points in its header bounds them, by the order of coordinates that crate `coordinates` proves.
+-- A file that has the bounds of some points in its header bounds them, by the order of coordinates that crate
+-- `coordinates` proves.
 -- Assumes nothing.
 use mathlib.Core.Path.{_≡_, sym, ap, _∙_, subst}
 use Prim.Native.Nat.{ℕ, _+_, _*_, _^_, _≤_, _<_}
@@ -23,7 +24,7 @@ use Rattle.fields.proofs.arrays.NumberLaws.{numbers-back}
 use Rattle.publicpart.specs.Bounds.{stored, largest, smallest, bounds}
 use Rattle.publicpart.proofs.BoundLaws.{length-bounds, bounds-some}
 use Rattle.publicpart.proofs.ExtremeLaws.{Extreme, AtMost, AtLeast, largest-is, smallest-is, stored-small}
-use Rattle.theorems.specs.BoundsOfKept.{axisNumber, maxOf, minOf, coordinateAt, OfPoint, Bounded}
+use Rattle.theorems.specs.BoundsOfKept.{axisNumber, maxOf, minOf, coordinateAt, Between, OfPoint, Bounded}
 
 -- a coordinate's bits have 64 places, and are the coordinate again
 module _ (z : ℤ) (scale offset : Float) where
@@ -82,7 +83,9 @@ module _ (f out : Bytes) (good : T (goodScaling (scalingOf f))) (q : Bytes) (qs 
   abbrev at : ℤ → Float
   at z = coordinateOf z (axisScale axis c) (axisOffset axis c)
 
-  double-back : (i : ℕ) (z : ℤ) → i < 6 → getD (bounds c (q ∷ qs)) i 0 ≡ coordinateBits z (axisScale axis c) (axisOffset axis c) → doubleAt out (179 + i * 8) ≡ at z
+  double-back : (i : ℕ) (z : ℤ) → i < 6
+      → getD (bounds c (q ∷ qs)) i 0 ≡ coordinateBits z (axisScale axis c) (axisOffset axis c)
+      → doubleAt out (179 + i * 8) ≡ at z
   unfolding doubleAt
   double-back i z h e =
       let six : length (bounds c (q ∷ qs)) ≡ 6 = length-bounds c (q ∷ qs) in
@@ -121,7 +124,8 @@ module _ (f out : Bytes) (good : T (goodScaling (scalingOf f))) (q : Bytes) (qs 
   bottom : Extreme AtLeast (map v (q ∷ qs)) lo
   bottom = smallest-is (v q) (map v qs)
 
-  within : (p : Bytes) → lo ≤ℤ v p → v p ≤ℤ hi → T (le (minOf out axis) (coordinateAt f axis p)) × T (le (coordinateAt f axis p) (maxOf out axis))
+  within : (p : Bytes) → lo ≤ℤ v p → v p ≤ℤ hi
+      → Between (minOf out axis) (coordinateAt f axis p) (maxOf out axis)
   unfolding coordinateAt
   within p l h =
       let o : FiniteInOrder (axisScale axis c) (axisOffset axis c) = passing c good axis in
@@ -136,6 +140,6 @@ module _ (f out : Bytes) (good : T (goodScaling (scalingOf f))) (q : Bytes) (qs 
         max = of-point hi (maxOf out axis) max-is (top .among);
         min = of-point lo (minOf out axis) min-is (bottom .among);
         between =
-            between v lo hi (λ p. T (le (minOf out axis) (coordinateAt f axis p)) × T (le (coordinateAt f axis p) (maxOf out axis))) within (q ∷ qs)
+            between v lo hi (λ p. Between (minOf out axis) (coordinateAt f axis p) (maxOf out axis)) within (q ∷ qs)
             (bottom .of-all) (top .of-all);
       }

@@ -40,13 +40,15 @@ module _ (sheet f : Bytes) (good : Good f) (k : ℕ) where
   few : length (pointsKept sheet f) < 256 ^ 4
   few = rw (public-points sheet f) at (public-sound sheet f good .pointCount)
 
-  bounded-released : (ps : List Bytes) → pointsKept sheet f ≡ ps → 1 ≤ length ps → (axis : Axis) → Bounded f (released sheet f k) ps axis
+  bounded-released : (ps : List Bytes) → pointsKept sheet f ≡ ps → 1 ≤ length ps → (axis : Axis)
+      → Bounded f (released sheet f k) ps axis
   bounded-released [] e h axis = absurd (not-suc-le-zero h)
   bounded-released (q ∷ qs) e h axis =
       bounded-by f (released sheet f k) (passed f (good .passes) .scaled) q qs
       (bounds-are ∙ ap (λ (l : List Bytes). numbersBytes 8 (bounds (scalingOf f) l)) e) axis
 
-  no-points-released : (ps : List Bytes) → pointsKept sheet f ≡ ps → length ps ≡ 0 → part 179 48 (released sheet f k) ≡ zeros 48
+  no-points-released : (ps : List Bytes) → pointsKept sheet f ≡ ps → length ps ≡ 0
+      → part 179 48 (released sheet f k) ≡ zeros 48
   no-points-released [] e h =
       bounds-are ∙ ap (λ (l : List Bytes). numbersBytes 8 (bounds (scalingOf f) l)) e ∙ bounds-none (scalingOf f)
   no-points-released (q ∷ qs) e h = absurd (omega arith)
@@ -93,7 +95,7 @@ bounds-of-kept =
           λ sheet f a n q r h some axis.
           let m : Known sheet f a n q r = accepted-means sheet f a n q r h in
           of-output sheet f a n q r (λ out. Bounded f out (pointsKept sheet f) axis) m
-          (λ k. bounded-released sheet f (m .good) k (pointsKept sheet f) refl (rw (points-are sheet f a n q r m) some) axis);
+          (λ k. bounded-released sheet f (m .good) k (pointsKept sheet f) refl (omega (arith, points-are sheet f a n q r m)) axis);
       no-points =
           λ sheet f a n q r h none.
           let m : Known sheet f a n q r = accepted-means sheet f a n q r h in

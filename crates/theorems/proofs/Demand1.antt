@@ -1,4 +1,5 @@
--- Demand 1 holds: a refusal changes nothing lent, and each function's number is that of its table's first failing check.
+-- Demand 1 holds: a refusal changes nothing lent, and each function's number is that of its table's first failing
+-- check.
 -- Assumes nothing.
 use mathlib.Core.Path.{_≡_, refl, sym, ap, _∙_}
 use Prim.Native.Nat.{ℕ, zero, suc}
@@ -36,7 +37,7 @@ use Rattle.capi.specs.PointAnswers.{pointFields, noPoint, pointNumbers, decoded
 use Rattle.capi.specs.HeaderAnswers.{headerFields, noHeader, headerNumbers}
 use Rattle.capi.specs.Interface.{lasCheckFile, lasCheckSheet, lasReadHeader, lasVlrStep, lasPointAt, lasDecode, lasEncode, lasClassKept, lasRecordKept, lasGeokeyFind, lasRelease}
 use Rattle.theorems.specs.Terms.{needed}
-use Rattle.theorems.specs.Tables.{Follows, linesChecks, sheetChecks, isSome, chosen, valueChecks, parameterChecks, entryTable, directoryTable, lookupChecks, releaseChecks}
+use Rattle.theorems.specs.Tables.{Follows, linesChecks, sheetChecks, isSome, chosen, valueChecks, parameterChecks, entryTable, keyTable, directoryTable, lookupChecks, releaseChecks}
 use Rattle.theorems.specs.Demand1.{NothingChanged, EachNumber, Demand1}
 use Rattle.theorems.specs.ZeroWhereAccepted.{isReleased, isZero}
 use Rattle.theorems.proofs.capi.NumberLaws.{AboveZero}
@@ -44,12 +45,14 @@ use Rattle.theorems.proofs.TableLaws.{joined, above-both, table-laws, f
 
 -- ---- a refusal changes nothing lent
 
-stored-not : (v : Verdict) (b room : Bytes) (n : ℕ) → encoding.storedIf v b room .0 ≡ Fails n → encoding.storedIf v b room .1 ≡ room
+stored-not : (v : Verdict) (b room : Bytes) (n : ℕ) → encoding.storedIf v b room .0 ≡ Fails n
+    → encoding.storedIf v b room .1 ≡ room
 unfolding encoding.storedIf
 stored-not Passes b room n e = let z : _≡_ {A = ℕ} 0 1 = cc in absurd (omega arith)
 stored-not (Fails m) b room n e = refl
 
-stored-numbered : (v : Verdict) (b room : Bytes) (n : ℕ) → numberOf (encoding.storedIf v b room .0) ≡ suc n → encoding.storedIf v b room .1 ≡ room
+stored-numbered : (v : Verdict) (b room : Bytes) (n : ℕ) → numberOf (encoding.storedIf v b room .0) ≡ suc n
+    → encoding.storedIf v b room .1 ≡ room
 unfolding encoding.storedIf numberOf
 stored-numbered Passes b room n e = absurd (omega arith)
 stored-numbered (Fails m) b room n e = refl
@@ -62,8 +65,10 @@ not-released (Fails n) short? m out o h e = refl
 not-released Passes true m out o h e = refl
 not-released Passes false m out o h e = let z : true ≡ false = sym h ∙ e in let y : _≡_ {A = ℕ} 0 1 = cc in absurd (omega arith)
 
-numbered-out : (v : Verdict) (short? : Bool) (m : ℕ) (out : Bytes) (o : Outcome) (n : ℕ) → releasedNumbers (o .0) .number ≡ 0
-    → releasedNumbers (refuseOr v out (shortOr short? m out o) .0) .number ≡ suc n → refuseOr v out (shortOr short? m out o) .1 ≡ out
+numbered-out : (v : Verdict) (short? : Bool) (m : ℕ) (out : Bytes) (o : Outcome) (n : ℕ)
+    → releasedNumbers (o .0) .number ≡ 0
+    → releasedNumbers (refuseOr v out (shortOr short? m out o) .0) .number ≡ suc n
+    → refuseOr v out (shortOr short? m out o) .1 ≡ out
 unfolding refuseOr shortOr
 numbered-out (Fails c) short? m out o n h e = refl
 numbered-out Passes true m out o n h e = refl
@@ -75,8 +80,8 @@ nothing-changed =
     record {
       encode = λ format len q room n e. stored-not _ _ room n e;
       release = λ sheet file out e. not-released _ _ _ out (accepted (publicOf sheet file) (length out)) refl e;
-      las-encode = λ format len p room n e. stored-numbered _ _ room n e;
-      las-release = λ file sheet out n e. numbered-out _ _ _ out (accepted (publicOf sheet file) (length out)) n refl e;
+      las-encode = λ format len p room n e. stored-numbered _ _ room _ e;
+      las-release = λ file sheet out n e. numbered-out _ _ _ out (accepted (publicOf sheet file) (length out)) _ refl e;
     }
 
 -- ---- an answer that a verdict decides has its number
@@ -86,7 +91,8 @@ unfolding header.fieldsIf headerNumbers headerFields noHeader numberOf
 header-number Passes h = refl
 header-number (Fails n) h = refl
 
-step-number : (v : Verdict) (r : RecordPlaces) (next : VlrCursor) → recordNumbers (recordIf v r next) .number ≡ numberOf v
+step-number : (v : Verdict) (r : RecordPlaces) (next : VlrCursor)
+    → recordNumbers (recordIf v r next) .number ≡ numberOf v
 unfolding recordIf recordNumbers recordFields noRecord numberOf
 step-number Passes r next = refl
 step-number (Fails n) r next = refl
@@ -123,7 +129,8 @@ unfolding fileVerdict
 file-first file = refl
 
 -- a table behind the file's
-behind-file : (file : Bytes) (cs : List Check) (number : ℕ) → AboveZero cs → number ≡ numberOf (then (fileVerdict file) (firstFailing cs))
+behind-file : (file : Bytes) (cs : List Check) (number : ℕ) → AboveZero cs
+    → number ≡ numberOf (then (fileVerdict file) (firstFailing cs))
     → Follows number (fileChecks file ++ cs)
 behind-file file cs number above e =
     follows number (fileChecks file ++ cs) (above-both (fileChecks file) cs (file-above file) above)
@@ -173,7 +180,8 @@ behind cs ds g e = decide (firstFailing cs) ∙ ap numberOf (sym (joined cs ds))
     decide Passes = unfold answerIf then in e
     decide (Fails n) = unfold answerIf then geokeyNumbers numberOf in refl
 
-of-chosen : (b : Bool) (g h : GeoKey) (cs ds : List Check) → OfTable g cs → OfTable h ds → OfTable (either b g h) (chosen b cs ds)
+of-chosen : (b : Bool) (g h : GeoKey) (cs ds : List Check) → OfTable g cs → OfTable h ds
+    → OfTable (either b g h) (chosen b cs ds)
 unfolding either chosen
 of-chosen true g h cs ds x y = x
 of-chosen false g h cs ds x y = y
@@ -195,11 +203,13 @@ double-table : (entry parameters : Bytes) → OfTable (doubleIn entry parameters
 unfolding doubleIn geokeyNumbers
 double-table entry parameters = alone (doubleChecks entry parameters) _ refl
 
-text-table : (entry : Bytes) (at : ℕ) (parameters : Bytes) → OfTable (textIn entry at parameters) (textChecks entry parameters)
+text-table : (entry : Bytes) (at : ℕ) (parameters : Bytes)
+    → OfTable (textIn entry at parameters) (textChecks entry parameters)
 unfolding textIn geokeyNumbers
 text-table entry at parameters = alone (textChecks entry parameters) _ refl
 
-in-parameters : (s entry : Bytes) (place : Option ℕ) → OfTable (inParameters s entry place) (parameterChecks s entry place)
+in-parameters : (s entry : Bytes) (place : Option ℕ)
+    → OfTable (inParameters s entry place) (parameterChecks s entry place)
 unfolding inParameters parameterChecks valueChecks isSome
 in-parameters s entry none = unfold geokeyNumbers numberOf firstFailing failIf fails in refl
 in-parameters s entry (some at) =
@@ -212,8 +222,8 @@ value-table : (v : ℕ) → OfTable (Value v) []
 unfolding geokeyNumbers numberOf firstFailing
 value-table v = refl
 
-from-entry : (s : Bytes) (entry : Option Bytes) → OfTable (fromEntry s entry) ((42, not-so (isSome entry)) ∷ entryTable s entry)
-unfolding fromEntry entryTable isSome
+from-entry : (s : Bytes) (entry : Option Bytes) → OfTable (fromEntry s entry) (keyTable s entry)
+unfolding fromEntry keyTable entryTable isSome
 from-entry s none = unfold geokeyNumbers numberOf firstFailing failIf fails in refl
 from-entry s (some entry) =
     found-first 42 _ _
@@ -250,11 +260,11 @@ entry-above s (some entry) =
     (chosen-above (eqb (locationOf entry) 0) [] (parameterChecks s entry place) tt (refl, value-above s entry place))
 
 directory-above : (s : Bytes) (key : ℕ) (place : Option ℕ) → AboveZero (directoryTable s key place)
-unfolding directoryTable AboveZero isZero
+unfolding directoryTable keyTable AboveZero isZero
 directory-above s key none = tt
 directory-above s key (some at) =
     let entry : Option Bytes = entryOf (payloadAt s at) key in
-    above-both (directoryChecks (payloadAt s at)) ((42, not-so (isSome entry)) ∷ entryTable s entry) (refl, tt) (refl, entry-above s entry)
+    above-both (directoryChecks (payloadAt s at)) (keyTable s entry) (refl, tt) (refl, entry-above s entry)
 
 lookup-above : (s : Bytes) (key : ℕ) → AboveZero (lookupChecks s key)
 unfolding lookupChecks AboveZero isZero
@@ -278,7 +288,8 @@ abbrev roomChecks : Bytes → Bytes → Bytes → List Check
 roomChecks sheet file out = (30, length out below needed sheet file) ∷ []
 
 behind-sheet : (sheet file out : Bytes)
-    → then (sheetVerdict sheet) (firstFailing (roomChecks sheet file out)) ≡ firstFailing (sheetChecks sheet ++ roomChecks sheet file out)
+    → then (sheetVerdict sheet) (firstFailing (roomChecks sheet file out))
+    ≡ firstFailing (sheetChecks sheet ++ roomChecks sheet file out)
 behind-sheet sheet file out = rw (sheet-first sheet) (sym (joined (sheetChecks sheet) (roomChecks sheet file out)))
 
 released-number : (file sheet out : Bytes) → releasedNumbers (release sheet file out .0) .number

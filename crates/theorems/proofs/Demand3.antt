@@ -1,7 +1,9 @@
--- Demand 3 holds. All that is used of the file's layout: a released file passes and has its public part (`released-passes`, `released-public`).
+-- Demand 3 holds. All that is used of the file's layout: a released file passes and has its public part
+-- (`released-passes`, `released-public`).
 -- Assumes nothing.
 use mathlib.Core.Path.{_≡_, refl, sym, ap, _∙_}
 use Prim.Native.Nat.{ℕ, _-_, _≤_, _<_}
+use native.Mathlib.Omega.{arith}
 use lib.ListN.{length}
 use Rattle.fields.specs.Bytes.{Bytes}
 use Rattle.fields.specs.declared.Verdict.the-variants.{Passes}
@@ -25,7 +27,8 @@ module _ (sheet : Bytes) (sheetGood : sheetVerdict sheet ≡ Passes) where
       ∙ ap (publicOf sheet) (sym (accepted-output sheet f a sheetGood goodF roomF) ∙ e ∙ accepted-output sheet g b sheetGood goodG roomG)
       ∙ released-public sheet g goodG (length b - needed sheet g)
 
-  release-same : (f g a b : Bytes) → Good f → Good g → length a ≡ length b → needed sheet f ≤ length a → needed sheet g ≤ length b
+  release-same : (f g a b : Bytes) → Good f → Good g → length a ≡ length b → needed sheet f ≤ length a
+      → needed sheet g ≤ length b
       → publicOf sheet f ≡ publicOf sheet g → release sheet f a ≡ release sheet g b
   release-same f g a b goodF goodG same roomF roomG e =
       release-long sheet f a (goodF .passes) sheetGood roomF
@@ -45,7 +48,7 @@ again : (sheet f a b : Bytes) (n q r : ℕ) → Accepted sheet f a n q r → n �
 again sheet f a b n q r h room =
     let m : Known sheet f a n q r = accepted-means sheet f a n q r h in
     of-output sheet f a n q r (λ file. release sheet file b ≡ inLength n (length b) (release sheet f a)) m
-    (λ k. again-at sheet f (m .sheet-passes) (m .good) k b (rw (m .answer .0) room) ∙ sym (in-length sheet f a n q r h (length b)))
+    (λ k. again-at sheet f (m .sheet-passes) (m .good) k b (omega (arith, m .answer .0)) ∙ sym (in-length sheet f a n q r h (length b)))
 
 again-same : (sheet f a b : Bytes) (n q r : ℕ) → Accepted sheet f a n q r → length b ≡ length a
     → OfOutput sheet f a n (λ file. release sheet file b ≡ release sheet f a)
@@ -61,15 +64,15 @@ demand3 =
     record {
       exactly =
           λ sheet f g a b sheetGood goodF goodG same roomF roomG. (
-            λ e. public-same sheet sheetGood f g a b goodF goodG roomF roomG (e .1),
+            λ e. public-same sheet sheetGood f g a b goodF goodG (omega arith) (omega arith) (e .1),
             λ e.
-                let r : release sheet f a ≡ release sheet g b = release-same sheet sheetGood f g a b goodF goodG same roomF roomG e in
+                let r : release sheet f a ≡ release sheet g b = release-same sheet sheetGood f g a b goodF goodG same (omega arith) (omega arith) e in
                 (ap (λ (o : Outcome). releasedNumbers (o .0)) r, ap (λ (o : Outcome). o .1) r),
           );
       short =
           λ sheet f g a b sheetGood goodF goodG same public less.
-          let x = too-short sheet sheetGood f a goodF (needed sheet f) refl less in
-          let y = too-short sheet sheetGood g b goodG (needed sheet f) (ap (λ (p : Public). length (render p)) (sym public)) (rw (← same) less) in
+          let x = too-short sheet sheetGood f a goodF (needed sheet f) refl (omega arith) in
+          let y = too-short sheet sheetGood g b goodG (needed sheet f) (ap (λ (p : Public). length (render p)) (sym public)) (omega arith) in
           (x .0, x .1, y .0, y .1);
       again = again;
       again-same = again-same;

@@ -1,4 +1,5 @@
--- A file passes exactly if it is as it should be, and records that are written are read back: the laws of crate `lasfile`.
+-- A file passes exactly if it is as it should be, and records that are written are read back: the laws of crate
+-- `lasfile`.
 -- Assumes nothing.
 use Rattle.lasfile.proofs.Passed.{passed, passes}
 use Rattle.lasfile.proofs.vlr.RecordLaws.{walk-back, walkEnd-back}

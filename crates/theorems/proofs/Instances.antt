@@ -1,4 +1,5 @@
--- The theorems applied to the samples' files, sheets and points: what they ask for is computed, and the rest is their word.
+-- The theorems applied to the samples' files, sheets and points: what they ask for is computed, and the rest is their
+-- word.
 -- Assumes nothing.
 use mathlib.Core.Path.{_≡_, refl, sym, ap, _∙_}
 use mathlib.Core.Logic.{inl, _↔_}
@@ -342,12 +343,14 @@ small : Fits32 (negsuc 0) × Fits32 (pos 3)
 unfolding Fits32
 small = (lit≤ tt, lit≤ tt)
 
-doubles9 : (num (part 131 8 file9) ≡ num half) × (num (part 139 8 file9) ≡ num half) × (num (part 147 8 file9) ≡ num half)
+doubles9 : (num (part 131 8 file9) ≡ num half) × (num (part 139 8 file9) ≡ num half)
+    × (num (part 147 8 file9) ≡ num half)
     × (num (part 155 8 file9) ≡ num ten) × (num (part 163 8 file9) ≡ num ten) × (num (part 171 8 file9) ≡ num ten)
 unfolding computed
 doubles9 = (refl, refl, refl, refl, refl, refl)
 
-exact10 : (z : ℤ) → Fits32 z → Times 1 (coordinateOf z (fin false 1 (negsuc 0)) (ofInt binary64 (pos 10))) (z +ℤ pos 10 *ℤ pos (2 ^ 1))
+exact10 : (z : ℤ) → Fits32 z
+    → Times 1 (coordinateOf z (fin false 1 (negsuc 0)) (ofInt binary64 (pos 10))) (z +ℤ pos 10 *ℤ pos (2 ^ 1))
 unfolding Exact
 exact10 = coordinates .exact 1 (fin false 1 (negsuc 0)) (ofInt binary64 (pos 10)) (pos 10) (coordinates .exact-case 1 (pos 10) (lit≤ tt) (lit≤ tt))
 

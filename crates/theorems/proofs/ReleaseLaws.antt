@@ -49,7 +49,8 @@ abbrev pub intoLength : Bytes → Bytes → ℕ → Outcome
 intoLength sheet f n = (answerOf sheet f, released sheet f (n - needed sheet f))
 
 -- releasing the released file
-pub again-at : (sheet f : Bytes) → sheetVerdict sheet ≡ Passes → Good f → (k : ℕ) (b : Bytes) → needed sheet f ≤ length b
+pub again-at : (sheet f : Bytes) → sheetVerdict sheet ≡ Passes → Good f → (k : ℕ) (b : Bytes)
+    → needed sheet f ≤ length b
     → release sheet (released sheet f k) b ≡ intoLength sheet f (length b)
 again-at sheet f sheetGood good k b room =
     let e : publicOf sheet (released sheet f k) ≡ publicOf sheet f = released-public sheet f good k in
@@ -89,7 +90,8 @@ accepted-means sheet f a n q r h =
 
 -- an accepted outcome, cut at n and filled with zeros to another length
 module _ (sheet f a : Bytes) (n q r : ℕ) (h : Accepted sheet f a n q r) where
-  pub in-length : (other : ℕ) → (release sheet f a .0, take n (release sheet f a .1) ++ zeros (other - n)) ≡ intoLength sheet f other
+  pub in-length : (other : ℕ)
+      → (release sheet f a .0, take n (release sheet f a .1) ++ zeros (other - n)) ≡ intoLength sheet f other
   in-length other =
       let m : Known sheet f a n q r = accepted-means sheet f a n q r h in
       let e : release sheet f a .0 ≡ answerOf sheet f = ap (λ (o : Outcome). o .0) (release-long sheet f a (m .good .passes) (m .sheet-passes) (m .room)) in
@@ -102,5 +104,6 @@ module _ (sheet f a : Bytes) (n q r : ℕ) (h : Accepted sheet f a n q r) where
       in-length (length a) ∙ sym (release-long sheet f a (m .good .passes) (m .sheet-passes) (m .room))
 
 -- what holds of the released file with k zeros behind it, for every k, holds of the output
-pub of-output : (sheet f a : Bytes) (n q r : ℕ) (P : Bytes → Type 0) → Known sheet f a n q r → ((k : ℕ) → P (released sheet f k)) → OfOutput sheet f a n P
+pub of-output : (sheet f a : Bytes) (n q r : ℕ) (P : Bytes → Type 0) → Known sheet f a n q r
+    → ((k : ℕ) → P (released sheet f k)) → OfOutput sheet f a n P
 of-output sheet f a n q r P m so = (subst P (sym (m .output)) (so (length a - needed sheet f)), subst P (sym (m .cut-output)) (so 0))

@@ -29,7 +29,8 @@ holds sheet f out e =
     }
 
 length-is : (sheet f : Bytes) → Good f
-    → needed sheet f ≡ headerBlock + total (recordLen 2) (recordsKept sheet f) + length (pointsKept sheet f) * recordLength f
+    → needed sheet f
+    ≡ headerBlock + total (recordLen 2) (recordsKept sheet f) + length (pointsKept sheet f) * recordLength f
 length-is sheet f good =
     let p : Public = publicOf sheet f in
     length-render p (public-sound sheet f good)

@@ -32,7 +32,12 @@ minOf s axis = doubleAt s (187 + 16 * axisNumber axis)
 
 -- the coordinate of a point of the file f
 unfoldable pub coordinateAt : Bytes → Axis → Bytes → Float
-coordinateAt f axis p = coordinateOf (stored (axisNumber axis) p) (axisScale axis (scalingOf f)) (axisOffset axis (scalingOf f))
+coordinateAt f axis p =
+    coordinateOf (stored (axisNumber axis) p) (axisScale axis (scalingOf f)) (axisOffset axis (scalingOf f))
+
+-- a double from one to another
+abbrev pub Between : Float → Float → Float → Type 0
+Between low x high = T (le low x) × T (le x high)
 
 -- a bound is the coordinate of some point
 pub record OfPoint (f : Bytes) (axis : Axis) (points : List Bytes) (bound : Float) : Type 0 where
@@ -46,7 +51,7 @@ pub record Bounded (f out : Bytes) (points : List Bytes) (axis : Axis) : Type 0 
   pub max : OfPoint f axis points (maxOf out axis)
   pub min : OfPoint f axis points (minOf out axis)
   -- and every point's coordinate is from the one bound to the other
-  pub between : All (λ p. T (le (minOf out axis) (coordinateAt f axis p)) × T (le (coordinateAt f axis p) (maxOf out axis))) points
+  pub between : All (λ p. Between (minOf out axis) (coordinateAt f axis p) (maxOf out axis)) points
 
 -- ---- bins
 

@@ -1,5 +1,5 @@
--- What is proved of coordinates, over the scale and offset of any axis: finite and in order, exact where the specification says so, and
--- scales and offsets carried by their own 64 bits.
+-- What is proved of coordinates, over the scale and offset of any axis: finite and in order, exact where the
+-- specification says so, and scales and offsets carried by their own 64 bits.
 -- Assumes nothing.
 use mathlib.Core.Path.{_≡_}
 use Prim.Native.Nat.{ℕ, _*_, _^_, _≤_}
@@ -66,12 +66,15 @@ pub record FiniteInOrder (scale offset : Float) : Type 0 where
   -- a coordinate is neither a NaN nor an infinity
   pub is-finite : (stored : ℤ) → Fits32 stored → T (finite (coordinateOf stored scale offset))
   -- a larger stored value never has a smaller coordinate
-  pub in-order : (a b : ℤ) → Fits32 a → Fits32 b → a ≤ℤ b → T (le (coordinateOf a scale offset) (coordinateOf b scale offset))
+  pub in-order : (a b : ℤ) → Fits32 a → Fits32 b → a ≤ℤ b
+      → T (le (coordinateOf a scale offset) (coordinateOf b scale offset))
 
--- the exact case: the scale is 2 ^ -k, k from 0 to 10, and the offset is the whole number `whole` of size at most 2 ^ 40
+-- the exact case
 pub record ExactCase (k : ℕ) (scale offset : Float) (whole : ℤ) : Type 0 where
+  -- the scale is 2 ^ -k, k from 0 to 10
   pub few : k ≤ 10
   pub power : Times k scale (pos 1)
+  -- and the offset is a whole number of size at most 2 ^ 40
   pub is-whole : Times 0 offset whole
   pub small : natAbs whole ≤ 2 ^ 40
 
@@ -82,14 +85,17 @@ Exact k scale offset whole =
 
 -- the scale and offset of an axis have the 64 bits that stand in the header
 pub record CarriedBits (s : Bytes) (axis : Axis) : Type 0 where
+  -- the scale's
   pub scale-bits : toBits binary64 (axisScale axis (scalingOf s)) ≡ num (part (scalePlace axis) 8 s)
+  -- the offset's
   pub offset-bits : toBits binary64 (axisOffset axis (scalingOf s)) ≡ num (part (offsetPlace axis) 8 s)
 
 -- ---- the theorems
 
 pub record Coordinates : Type 0 where
   -- scales and offsets that pass number 10 give finite coordinates, in the order of the stored values
-  pub finite-in-order : (c : Scaling) → T (goodScaling c) → (axis : Axis) → FiniteInOrder (axisScale axis c) (axisOffset axis c)
+  pub finite-in-order : (c : Scaling) → T (goodScaling c) → (axis : Axis)
+      → FiniteInOrder (axisScale axis c) (axisOffset axis c)
   -- those of a file are carried by their bits
   pub carried : (s : Bytes) → AllBytes s → T (goodScaling (scalingOf s)) → (axis : Axis) → CarriedBits s axis
   -- in the exact case a coordinate is exact

@@ -1,6 +1,6 @@
--- Demand 1: a refusal changes nothing lent, and each number is given exactly under its own condition where no earlier one holds.
--- `lasCoordinate` and `lasLevel` cannot refuse. What the program alone gives, 50 and 51, is the first failing check of `inputChecks`: the
--- two laws of tables say when.
+-- Demand 1: a refusal changes nothing lent, and each number is given exactly under its own condition where no earlier
+-- one holds. `lasCoordinate` and `lasLevel` cannot refuse. What the program alone gives, 50 and 51, is the first
+-- failing check of `inputChecks`: the two laws of tables say when.
 -- Assumes nothing.
 use mathlib.Core.Path.{_≡_}
 use mathlib.Core.Logic.{_↔_}
@@ -29,10 +29,12 @@ pub record NothingChanged : Type 0 where
   pub encode : (format len : ℕ) (q : Point) (room : Bytes) (n : ℕ)
       → encoded format len q room .0 ≡ Fails n → encoded format len q room .1 ≡ room
   -- the output of a release that is not accepted, 30 too
-  pub release : (sheet file out : Bytes) → isReleased (release sheet file out .0) ≡ false → release sheet file out .1 ≡ out
-  -- the same of the exported functions, by the number that they give
+  pub release : (sheet file out : Bytes) → isReleased (release sheet file out .0) ≡ false
+      → release sheet file out .1 ≡ out
+  -- the room of `las_encode`, where its number is not 0
   pub las-encode : (format len : ℕ) (p : «las_point») (room : Bytes) (n : ℕ)
       → lasEncode format len p room .0 ≡ suc n → lasEncode format len p room .1 ≡ room
+  -- the output of `las_release`, where its number is not 0
   pub las-release : (file sheet out : Bytes) (n : ℕ)
       → lasRelease file sheet out .0 .number ≡ suc n → lasRelease file sheet out .1 ≡ out
 
@@ -55,9 +57,11 @@ pub record EachNumber : Type 0 where
   pub vlr-step : (file : Bytes) (index position : ℕ)
       → Follows (lasVlrStep file index position .number) (fileChecks file ++ stepChecks file index position)
   -- 1 to 10, then 11
-  pub point-at : (file : Bytes) (index : ℕ) → Follows (lasPointAt file index .number) (fileChecks file ++ pointChecks file index)
+  pub point-at : (file : Bytes) (index : ℕ)
+      → Follows (lasPointAt file index .number) (fileChecks file ++ pointChecks file index)
   -- 12
-  pub decode : (format len : ℕ) (bytes : Bytes) → Follows (lasDecode format len bytes .number) (decodeChecks format len bytes)
+  pub decode : (format len : ℕ) (bytes : Bytes)
+      → Follows (lasDecode format len bytes .number) (decodeChecks format len bytes)
   -- 12, then 13
   pub encode : (format len : ℕ) (p : «las_point») (room : Bytes)
       → Follows (lasEncode format len p room .0) (encodeChecks format len (givenPoint p) room)
@@ -66,11 +70,15 @@ pub record EachNumber : Type 0 where
   -- 20 to 24
   pub record-kept : (sheet user : Bytes) (id : ℕ) → Follows (lasRecordKept sheet user id .number) (sheetChecks sheet)
   -- 1 to 10, then 40 to 46
-  pub geokey-find : (file : Bytes) (key : ℕ) → Follows (lasGeokeyFind file key .number) (fileChecks file ++ lookupChecks file key)
+  pub geokey-find : (file : Bytes) (key : ℕ)
+      → Follows (lasGeokeyFind file key .number) (fileChecks file ++ lookupChecks file key)
   -- 1 to 10, then 20 to 24, then 30
   pub release : (file sheet out : Bytes) → Follows (lasRelease file sheet out .0 .number) (releaseChecks sheet file out)
 
 pub record Demand1 : Type 0 where
+  -- a refusal changes nothing lent
   pub nothing-changed : NothingChanged
+  -- what any table of checks gives
   pub tables : TableLaws
+  -- what each function gives
   pub each-number : EachNumber

@@ -1,5 +1,5 @@
--- What is proved of a file and its records: it passes exactly if all that the checks look at is as it should be, and records that are
--- written are read back.
+-- What is proved of a file and its records: it passes exactly if all that the checks look at is as it should be, and
+-- records that are written are read back.
 -- Assumes nothing.
 use mathlib.Core.Path.{_≡_}
 use mathlib.Core.Logic.{_↔_}
@@ -21,5 +21,6 @@ pub record Files : Type 0 where
   pub walk-back : (lw : ℕ) (rs : List Record) → All (SoundRecord lw) rs → (at : ℕ) (pre rest : Bytes) → length pre ≡ at
       → walk lw (length rs) at (pre ++ (recordsBytes lw rs ++ rest)) ≡ rs
   -- and it ends where they do
-  pub walk-end-back : (lw : ℕ) (rs : List Record) → All (SoundRecord lw) rs → (at : ℕ) (pre rest : Bytes) → length pre ≡ at
+  pub walk-end-back : (lw : ℕ) (rs : List Record) → All (SoundRecord lw) rs → (at : ℕ) (pre rest : Bytes)
+      → length pre ≡ at
       → walkEnd lw (length rs) at (pre ++ (recordsBytes lw rs ++ rest)) ≡ at + total (recordLen lw) rs

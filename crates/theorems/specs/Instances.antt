@@ -1,5 +1,5 @@
--- Instances: every theorem that has hypotheses, applied to files, sheets and points that meet them. A statement that an added or stronger
--- hypothesis has made empty is refused here.
+-- Instances: every theorem that has hypotheses, applied to files, sheets and points that meet them. A statement that an
+-- added or stronger hypothesis has made empty is refused here.
 -- Assumes nothing.
 use mathlib.Core.Path.{_≡_}
 use Prim.Native.Nat.{ℕ, _≤_}
@@ -59,6 +59,14 @@ filled b = replicate 300 b
 abbrev pub output9 : Bytes
 output9 = release sheet3 file9 (filled 7) .1
 
+-- of that output as a file, with the zeros and without
+abbrev pub OfOutput9 : (Bytes → Type 0) → Type 0
+OfOutput9 P = OfOutput sheet3 file9 (filled 7) 255 P
+
+-- released again into b, it gives the same answer, and the released file with zeros behind it
+abbrev pub Again9 : Bytes → Type 0
+Again9 b = OfOutput9 (λ file. release sheet3 file b ≡ inLength 255 (length b) (release sheet3 file9 (filled 7)))
+
 -- the point of sample P7
 abbrev pub fields7 : Point
 fields7 = pointOf 0 (point7 2)
@@ -108,12 +116,14 @@ pub record Demand3Met : Type 0 where
   pub same : Same (release sheet3 file9 (filled 7)) (release sheet3 other9 (filled 9))
   pub one-public-part : publicOf sheet3 file9 ≡ publicOf sheet3 other9
   -- into 254 bytes
-  pub short : (releasedNumbers (release sheet3 file9 (used 254) .0) ≡ tooShort 255) × (release sheet3 file9 (used 254) .1 ≡ used 254)
-      × (releasedNumbers (release sheet3 other9 (zeros 254) .0) ≡ tooShort 255) × (release sheet3 other9 (zeros 254) .1 ≡ zeros 254)
+  pub short : (releasedNumbers (release sheet3 file9 (used 254) .0) ≡ tooShort 255)
+      × (release sheet3 file9 (used 254) .1 ≡ used 254)
+      × (releasedNumbers (release sheet3 other9 (zeros 254) .0) ≡ tooShort 255)
+      × (release sheet3 other9 (zeros 254) .1 ≡ zeros 254)
   -- again, into a shorter output, a longer one, and one of the same length
-  pub again-shorter : OfOutput sheet3 file9 (filled 7) 255 (λ file. release sheet3 file (used 260) ≡ inLength 255 260 (release sheet3 file9 (filled 7)))
-  pub again-longer : OfOutput sheet3 file9 (filled 7) 255 (λ file. release sheet3 file (used 400) ≡ inLength 255 400 (release sheet3 file9 (filled 7)))
-  pub again-same : OfOutput sheet3 file9 (filled 7) 255 (λ file. release sheet3 file (filled 9) ≡ release sheet3 file9 (filled 7))
+  pub again-shorter : Again9 (used 260)
+  pub again-longer : Again9 (used 400)
+  pub again-same : OfOutput9 (λ file. release sheet3 file (filled 9) ≡ release sheet3 file9 (filled 7))
 
 -- ---- a released file is known
 
@@ -124,18 +134,18 @@ pub record RecognisedMet : Type 0 where
 -- ---- the released file
 
 pub record ReleasedFileMet : Type 0 where
-  pub holds : OfOutput sheet3 file9 (filled 7) 255 (Holds sheet3 file9)
+  pub holds : OfOutput9 (Holds sheet3 file9)
   pub counted : Counted sheet3 file9 255 1 0
   pub rest : (length output9 ≡ 300) × (drop 255 output9 ≡ zeros 45)
   pub no-longer : 255 ≤ length file9
-  pub passes : OfOutput sheet3 file9 (filled 7) 255 (λ file. fileVerdict file ≡ Passes)
+  pub passes : OfOutput9 (λ file. fileVerdict file ≡ Passes)
   pub room : releasedNumbers (release sheet3 file9 (used 347) .0) .number ≡ 0
 
 pub record BoundsOfKeptMet : Type 0 where
-  pub bounded : OfOutput sheet3 file9 (filled 7) 255 (λ out. Bounded file9 out (pointsKept sheet3 file9) X)
+  pub bounded : OfOutput9 (λ out. Bounded file9 out (pointsKept sheet3 file9) X)
   -- under the empty sheet, as in sample P10
   pub no-points : OfOutput [] file9 (used 227) 227 (λ out. part 179 48 out ≡ zeros 48)
-  pub binned : OfOutput sheet3 file9 (filled 7) 255 (λ out. Binned file9 out (pointsKept sheet3 file9))
+  pub binned : OfOutput9 (λ out. Binned file9 out (pointsKept sheet3 file9))
 
 -- ---- sheets, files, points, coordinates
 
@@ -168,6 +178,7 @@ pub record CoordinatesMet : Type 0 where
   pub in-order : T (le (at9 (negsuc 0)) (at9 (pos 3)))
   pub carried : CarriedBits file9 X
   -- 2 times the coordinate of -1 is -1 + 10 · 2
-  pub exact : Times 1 (coordinateOf (negsuc 0) (fin false 1 (negsuc 0)) (ofInt binary64 (pos 10))) (negsuc 0 +ℤ pos 10 *ℤ pos 2)
+  pub exact : Times 1 (coordinateOf (negsuc 0) (fin false 1 (negsuc 0)) (ofInt binary64 (pos 10)))
+      (negsuc 0 +ℤ pos 10 *ℤ pos 2)
   pub scales : lasReadHeader file9 .scale ≡ num half ∷ num half ∷ num half ∷ []
   pub offsets : lasReadHeader file9 .offset ≡ num ten ∷ num ten ∷ num ten ∷ []

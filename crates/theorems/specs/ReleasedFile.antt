@@ -1,5 +1,5 @@
--- What is proved of the released file: every kept record and every kept point of the source is in it, in order and unchanged, and nothing
--- else is; it passes the file checks, and is never longer than its source.
+-- What is proved of the released file: every kept record and every kept point of the source is in it, in order and
+-- unchanged, and nothing else is; it passes the file checks, and is never longer than its source.
 -- Assumes nothing.
 use mathlib.Core.Path.{_≡_}
 use Prim.Native.Nat.{ℕ, _+_, _-_, _*_, _≤_}
@@ -43,7 +43,8 @@ pub record Counted (sheet f : Bytes) (n points records : ℕ) : Type 0 where
   -- the kept records
   pub records-are : records ≡ length (recordsKept sheet f)
   -- the length is that of a header, the records and the points: there is no room for anything else
-  pub length-is : n ≡ headerBlock + total (recordLen 2) (recordsKept sheet f) + length (pointsKept sheet f) * recordLength f
+  pub length-is : n
+      ≡ headerBlock + total (recordLen 2) (recordsKept sheet f) + length (pointsKept sheet f) * recordLength f
 
 pub record Complete : Type 0 where
   -- the output, read as a file, holds the public part of the source

@@ -1,4 +1,5 @@
--- The specification's bench samples P1 to P10, in one table: what the definitions give, and what the specification says.
+-- The specification's bench samples P1 to P10, in one table: what the definitions give, and what the specification
+-- says.
 -- Assumes nothing.
 use mathlib.Core.Path.{_≡_}
 use Prim.Native.Nat.{ℕ}
@@ -39,7 +40,8 @@ sheet6 = 0x4B ∷ 0x54 ∷ 0x01 ∷ []
 -- a point as in P7, of any class
 abbrev pub point7 : ℕ → Bytes
 point7 class =
-    0xFF ∷ 0xFF ∷ 0xFF ∷ 0xFF ∷ 0x64 ∷ 0x00 ∷ 0x00 ∷ 0x00 ∷ 0x00 ∷ 0x00 ∷ 0x00 ∷ 0x00 ∷ 0x2C ∷ 0x01 ∷ 0x11 ∷ class ∷ 0xFD ∷ 0x00 ∷ 0x07 ∷ 0x00 ∷ []
+    0xFF ∷ 0xFF ∷ 0xFF ∷ 0xFF ∷ 0x64 ∷ 0x00 ∷ 0x00 ∷ 0x00 ∷ 0x00 ∷ 0x00 ∷ 0x00 ∷ 0x00
+    ∷ 0x2C ∷ 0x01 ∷ 0x11 ∷ class ∷ 0xFD ∷ 0x00 ∷ 0x07 ∷ 0x00 ∷ []
 
 -- 0.5 and 10 as doubles
 abbrev pub half : Bytes
@@ -112,9 +114,15 @@ samples =
     ∷ (whole (numberOf (sheetVerdict sheet5) ∷ []), whole (22 ∷ []))
     ∷ (whole (numberOf (sheetVerdict sheet6) ∷ []), whole (20 ∷ []))
     -- P7
-    ∷ (fieldsOf (decoded 0 20 (point7 2)), negsuc 0 ∷ pos 100 ∷ pos 0 ∷ pos 300 ∷ pos 1 ∷ pos 2 ∷ pos 2 ∷ negsuc 2 ∷ pos 0 ∷ pos 7 ∷ [])
+    ∷ (
+      fieldsOf (decoded 0 20 (point7 2)),
+      negsuc 0 ∷ pos 100 ∷ pos 0 ∷ pos 300 ∷ pos 1 ∷ pos 2 ∷ pos 2 ∷ negsuc 2 ∷ pos 0 ∷ pos 7 ∷ [],
+    )
     -- P8
-    ∷ (whole (coordinateBits (negsuc 0) (fin false 1 (negsuc 0)) (fin false 5 (pos 1)) ∷ []), whole (toBits binary64 (fin false 19 (negsuc 0)) ∷ []))
+    ∷ (
+      whole (coordinateBits (negsuc 0) (fin false 1 (negsuc 0)) (fin false 5 (pos 1)) ∷ []),
+      whole (toBits binary64 (fin false 19 (negsuc 0)) ∷ []),
+    )
     ∷ (
       whole (bytesOf 8 (coordinateBits (negsuc 0) (fin false 1 (negsuc 0)) (fin false 5 (pos 1)))),
       whole (0x00 ∷ 0x00 ∷ 0x00 ∷ 0x00 ∷ 0x00 ∷ 0x00 ∷ 0x23 ∷ 0x40 ∷ []),

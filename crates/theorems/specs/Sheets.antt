@@ -41,10 +41,12 @@ pub record KeptByLines : Type 0 where
       → (keepsClass sheet c ≡ true) ↔ SomeLine (lines sheet) (λ l. (kind l ≡ 1) × (lowest l ≤ c) × (c ≤ highest l))
   -- a record is kept exactly if some kind 2 line of the sheet has its cut user ID and its ID
   pub entry : (sheet user : Bytes) (id : ℕ)
-      → (keepsRecord sheet user id ≡ true) ↔ SomeLine (lines sheet) (λ l. (kind l ≡ 2) × (userID l ≡ user) × (recordID l ≡ id))
+      → (keepsRecord sheet user id ≡ true)
+      ↔ SomeLine (lines sheet) (λ l. (kind l ≡ 2) × (userID l ≡ user) × (recordID l ≡ id))
   -- what is kept depends on the lines alone
   pub by-lines : (s t : Bytes) → lines s ≡ lines t
-      → ((c : ℕ) → keepsClass s c ≡ keepsClass t c) × ((user : Bytes) (id : ℕ) → keepsRecord s user id ≡ keepsRecord t user id)
+      → ((c : ℕ) → keepsClass s c ≡ keepsClass t c)
+      × ((user : Bytes) (id : ℕ) → keepsRecord s user id ≡ keepsRecord t user id)
   -- the empty sheet is good and keeps nothing
   pub empty : (sheetVerdict [] ≡ Passes)
       × ((c : ℕ) → keepsClass [] c ≡ false)

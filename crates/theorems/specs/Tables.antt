@@ -1,4 +1,5 @@
--- The numbers that the functions give, as tables of checks in the specification's order, and what it means that a table gives a number.
+-- The numbers that the functions give, as tables of checks in the specification's order, and what it means that a table
+-- gives a number.
 -- Assumes nothing.
 use mathlib.Core.Path.{_≡_}
 use mathlib.Core.Logic.{_↔_}
@@ -17,13 +18,15 @@ use Rattle.theorems.specs.Terms.{needed}
 
 -- ---- what a table gives
 
--- a check with the number n fails, and every check before it is clear
 pub record Given (cs : List Check) (n : ℕ) : Type 0 where
+  -- the table has a check with the number n
   pub before : List Check
   pub test : Test
   pub after : List Check
   pub table : cs ≡ before ++ (n, test) ∷ after
+  -- every check before it is clear
   pub earlier : AllClear before
+  -- and its own condition holds
   pub own : Clear test → ⊥
 
 -- a number that a function gives follows a table
@@ -63,17 +66,21 @@ valueChecks s entry (some at) =
 unfoldable pub parameterChecks : Bytes → Bytes → Option ℕ → List Check
 parameterChecks s entry place = (45, not-so (isSome place)) ∷ valueChecks s entry place
 
--- 43 to 46, of the key's entry
+-- 43 to 46, of an entry
 unfoldable pub entryTable : Bytes → Option Bytes → List Check
 entryTable s none = []
 entryTable s (some entry) =
-    entryChecks entry ++ chosen (eqb (locationOf entry) 0) [] (parameterChecks s entry (projectionPlace s (locationOf entry)))
+    entryChecks entry
+    ++ chosen (eqb (locationOf entry) 0) [] (parameterChecks s entry (projectionPlace s (locationOf entry)))
+
+-- 42 to 46, of the key's entry, if there is one
+unfoldable pub keyTable : Bytes → Option Bytes → List Check
+keyTable s entry = (42, not-so (isSome entry)) ∷ entryTable s entry
 
 -- 41 to 46, of the place of the directory
 unfoldable pub directoryTable : Bytes → ℕ → Option ℕ → List Check
 directoryTable s key none = []
-directoryTable s key (some at) =
-    directoryChecks (payloadAt s at) ++ ((42, not-so (isSome (entryOf (payloadAt s at) key))) ∷ entryTable s (entryOf (payloadAt s at) key))
+directoryTable s key (some at) = directoryChecks (payloadAt s at) ++ keyTable s (entryOf (payloadAt s at) key)
 
 unfoldable pub lookupChecks : Bytes → ℕ → List Check
 lookupChecks s key = (40, not-so (isSome (projectionPlace s 34735))) ∷ directoryTable s key (projectionPlace s 34735)

@@ -1,4 +1,5 @@
--- Terms of the theorems: a file that passes, the released file's length, an accepted release, and its output read as a file.
+-- Terms of the theorems: a file that passes, the released file's length, an accepted release, and its output read as a
+-- file.
 -- Assumes nothing.
 use mathlib.Core.Path.{_≡_}
 use Prim.Native.Nat.{ℕ}
@@ -11,18 +12,20 @@ use Rattle.publicpart.specs.Render.{render}
 use Rattle.publicpart.specs.declared.Answer.the-variants.{Released}
 use Rattle.publicpart.specs.Release.{release}
 
--- a file is bytes, and passes the file checks
 pub record Good (file : Bytes) : Type 0 where
+  -- a file is bytes
   pub bytes : AllBytes file
+  -- and passes the file checks
   pub passes : fileVerdict file ≡ Passes
 
 -- the length of the released file
 abbrev pub needed : Bytes → Bytes → ℕ
 needed sheet file = length (render (publicOf sheet file))
 
--- a release of the bytes f into the output a is accepted, and returns the file length n and these numbers of kept points and kept records
 pub record Accepted (sheet f a : Bytes) (n points records : ℕ) : Type 0 where
+  -- the source f is bytes
   pub bytes : AllBytes f
+  -- its release into the output a is accepted: the file length n, and these numbers of kept points and kept records
   pub answer : release sheet f a .0 ≡ Released n points records
 
 -- of the output as a file, with the zeros behind the returned length n and without

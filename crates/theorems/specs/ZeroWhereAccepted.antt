@@ -65,21 +65,36 @@ isReleased (answer.Released n p r) = true
 isReleased (answer.Short n) = false
 isReleased (answer.Refused n) = false
 
--- ---- number by number
+-- ---- number by number: 0 exactly where
 
 unfoldable pub isZero : ℕ → Bool
 isZero n = eqb n 0
 
 pub record ZeroWhereAccepted : Type 0 where
+  -- a file passes
   pub check-file : (file : Bytes) → isZero (lasCheckFile file) ≡ passes (fileVerdict file)
+  -- a sheet passes
   pub check-sheet : (sheet : Bytes) → isZero (lasCheckSheet sheet) ≡ passes (sheetVerdict sheet)
+  -- a header is read
   pub read-header : (file : Bytes) → isZero (lasReadHeader file .number) ≡ hasFields (headerRead file)
-  pub vlr-step : (file : Bytes) (index position : ℕ) → isZero (lasVlrStep file index position .number) ≡ hasRecord (stepOf file index position)
+  -- a step answers a record
+  pub vlr-step : (file : Bytes) (index position : ℕ)
+      → isZero (lasVlrStep file index position .number) ≡ hasRecord (stepOf file index position)
+  -- a point is answered
   pub point-at : (file : Bytes) (index : ℕ) → isZero (lasPointAt file index .number) ≡ hasPoint (pointAtOf file index)
-  pub decode : (format len : ℕ) (bytes : Bytes) → isZero (lasDecode format len bytes .number) ≡ isDecoded (decoded format len bytes)
+  -- a record is decoded
+  pub decode : (format len : ℕ) (bytes : Bytes)
+      → isZero (lasDecode format len bytes .number) ≡ isDecoded (decoded format len bytes)
+  -- a point is encoded
   pub encode : (format len : ℕ) (p : «las_point») (room : Bytes)
       → isZero (lasEncode format len p room .0) ≡ passes (encoded format len (givenPoint p) room .0)
+  -- a sheet that is asked about a class passes
   pub class-kept : (sheet : Bytes) (class : ℕ) → isZero (lasClassKept sheet class .number) ≡ passes (sheetVerdict sheet)
-  pub record-kept : (sheet user : Bytes) (id : ℕ) → isZero (lasRecordKept sheet user id .number) ≡ passes (sheetVerdict sheet)
+  -- a sheet that is asked about a record passes
+  pub record-kept : (sheet user : Bytes) (id : ℕ)
+      → isZero (lasRecordKept sheet user id .number) ≡ passes (sheetVerdict sheet)
+  -- a key is found
   pub geokey-find : (file : Bytes) (k : ℕ) → isZero (lasGeokeyFind file k .number) ≡ isFound (lookup file k)
-  pub release : (file sheet out : Bytes) → isZero (lasRelease file sheet out .0 .number) ≡ isReleased (release sheet file out .0)
+  -- a release is accepted
+  pub release : (file sheet out : Bytes)
+      → isZero (lasRelease file sheet out .0 .number) ≡ isReleased (release sheet file out .0)

@@ -34,22 +34,26 @@ use Rattle.theorems.proofs.capi.NumberLaws.{Numbered, AboveZero, first-
 
 -- ---- an answer that a verdict decides
 
-header-if : (v : Verdict) (h : Header) → Numbered v → isZero (headerNumbers (header.fieldsIf v h) .number) ≡ hasFields (header.fieldsIf v h)
+header-if : (v : Verdict) (h : Header) → Numbered v
+    → isZero (headerNumbers (header.fieldsIf v h) .number) ≡ hasFields (header.fieldsIf v h)
 unfolding header.fieldsIf headerNumbers headerFields noHeader hasFields Numbered passes numberOf isZero
 header-if Passes h e = refl
 header-if (Fails n) h e = e
 
-record-if : (v : Verdict) (r : RecordPlaces) (next : VlrCursor) → Numbered v → isZero (recordNumbers (recordIf v r next) .number) ≡ hasRecord (recordIf v r next)
+record-if : (v : Verdict) (r : RecordPlaces) (next : VlrCursor) → Numbered v
+    → isZero (recordNumbers (recordIf v r next) .number) ≡ hasRecord (recordIf v r next)
 unfolding recordIf recordNumbers recordFields noRecord hasRecord Numbered passes numberOf isZero
 record-if Passes r next e = refl
 record-if (Fails n) r next e = e
 
-point-if : (v : Verdict) (at : ℕ) (p : Point) → Numbered v → isZero (pointNumbers (pointIf v at p) .number) ≡ hasPoint (pointIf v at p)
+point-if : (v : Verdict) (at : ℕ) (p : Point) → Numbered v
+    → isZero (pointNumbers (pointIf v at p) .number) ≡ hasPoint (pointIf v at p)
 unfolding pointIf pointNumbers pointFields noPoint hasPoint Numbered passes numberOf isZero
 point-if Passes at p e = refl
 point-if (Fails n) at p e = e
 
-decoded-if : (v : Verdict) (p : Point) → Numbered v → isZero (decodedNumbers (points.fieldsIf v p) .number) ≡ isDecoded (points.fieldsIf v p)
+decoded-if : (v : Verdict) (p : Point) → Numbered v
+    → isZero (decodedNumbers (points.fieldsIf v p) .number) ≡ isDecoded (points.fieldsIf v p)
 unfolding points.fieldsIf decodedNumbers pointFields noPoint isDecoded Numbered passes numberOf isZero
 decoded-if Passes p e = refl
 decoded-if (Fails n) p e = e
@@ -116,12 +120,14 @@ found s k = answer-if (fileVerdict s) _ (file-numbered s) (from-directory s k (p
 NumberedOutcome : Outcome → Type 0
 NumberedOutcome o = isZero (releasedNumbers (o .0) .number) ≡ isReleased (o .0)
 
-refuse-or : (v : Verdict) (out : Bytes) (later : Outcome) → Numbered v → NumberedOutcome later → NumberedOutcome (refuseOr v out later)
+refuse-or : (v : Verdict) (out : Bytes) (later : Outcome) → Numbered v → NumberedOutcome later
+    → NumberedOutcome (refuseOr v out later)
 unfolding NumberedOutcome refuseOr releasedNumbers isReleased Numbered passes numberOf
 refuse-or Passes out later e h = h
 refuse-or (Fails n) out later e h = e
 
-short-or : (b : Bool) (n : ℕ) (out : Bytes) (later : Outcome) → NumberedOutcome later → NumberedOutcome (shortOr b n out later)
+short-or : (b : Bool) (n : ℕ) (out : Bytes) (later : Outcome) → NumberedOutcome later
+    → NumberedOutcome (shortOr b n out later)
 unfolding NumberedOutcome shortOr releasedNumbers isReleased isZero
 short-or true n out later h = refl
 short-or false n out later h = h

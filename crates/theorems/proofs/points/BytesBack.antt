@@ -42,11 +42,13 @@ module _ (s : Bytes) (all : AllBytes s) where
   byte-back : (at : ℕ) → at + 1 ≤ length s → bytesOf 1 (getD s at 0) ≡ part at 1 s
   byte-back at h = rw (← num-part-one at s) (number-back at 1 h)
 
-  signed-back : (w : Width) (at n : ℕ) → 256 ^ n ≡ 2 ^ widthBits w → at + n ≤ length s → bytesOf n (ofZ w (toZ w (num (part at n s)))) ≡ part at n s
+  signed-back : (w : Width) (at n : ℕ) → 256 ^ n ≡ 2 ^ widthBits w → at + n ≤ length s
+      → bytesOf n (ofZ w (toZ w (num (part at n s)))) ≡ part at n s
   signed-back w at n e h =
       ap (bytesOf n) (ofZ-toZ w (num (part at n s)) (record { fits = rw e at (num-part-lt at n s all) })) ∙ number-back at n h
 
-  placed-back : (at w shift : ℕ) → at + shift + w ≤ length s → bytesOf w (numberAt w (At at) shift s) ≡ part (at + shift) w s
+  placed-back : (at w shift : ℕ) → at + shift + w ≤ length s
+      → bytesOf w (numberAt w (At at) shift s) ≡ part (at + shift) w s
   unfolding numberAt
   placed-back at w shift h = number-back (at + shift) w h
 
@@ -87,7 +89,8 @@ numbersAt shift [] place s = []
 numbersAt shift (w ∷ ws) place s = bytesOf w (numberAt w place shift s) ∷ numbersAt (shift + w) ws place s
 
 module _ (s : Bytes) (all : AllBytes s) where
-  numbers-parts : (at shift : ℕ) (ws : List ℕ) → at + shift + total (λ n. n) ws ≤ length s → numbersAt shift ws (At at) s ≡ partsFrom (at + shift) ws s
+  numbers-parts : (at shift : ℕ) (ws : List ℕ) → at + shift + total (λ n. n) ws ≤ length s
+      → numbersAt shift ws (At at) s ≡ partsFrom (at + shift) ws s
   unfolding total
   numbers-parts at shift [] h = refl
   numbers-parts at shift (w ∷ ws) h =
@@ -95,7 +98,8 @@ module _ (s : Bytes) (all : AllBytes s) where
       rw (placed-back s all at w shift (omega arith), numbers-parts at (shift + w) ws (omega arith), e)
 
   -- one law for GPS time and for colour, over the place
-  group-back : (place : Place) (n : ℕ) (ws : List ℕ) → Follows place n → n + widthIf place (total (λ n. n) ws) ≤ length s
+  group-back : (place : Place) (n : ℕ) (ws : List ℕ) → Follows place n
+      → n + widthIf place (total (λ n. n) ws) ≤ length s
       → join (ifPlaced place (numbersAt 0 ws place s)) ≡ part n (widthIf place (total (λ n. n) ws)) s
   unfolding ifPlaced join part
   group-back Absent n ws e h = refl
@@ -129,12 +133,14 @@ module _ (f : ℕ) (s : Bytes) (all : AllBytes s) where
   unfolding total
   shared-back h = ap join (shared-parts h) ∙ join-parts 0 sharedWidths s
 
-  time-back : 20 + widthIf (timePlace f) 8 ≤ length s → join (timeFields (timePlace f) (pointOf f s)) ≡ part 20 (widthIf (timePlace f) 8) s
+  time-back : 20 + widthIf (timePlace f) 8 ≤ length s
+      → join (timeFields (timePlace f) (pointOf f s)) ≡ part 20 (widthIf (timePlace f) 8) s
   unfolding total timeFields pointOf
   time-back h = group-back s all (timePlace f) 20 (8 ∷ []) (layered f .time) h
 
   colour-back : 20 + widthIf (timePlace f) 8 + widthIf (colourPlace f) 6 ≤ length s
-      → join (colourFields (colourPlace f) (pointOf f s)) ≡ part (20 + widthIf (timePlace f) 8) (widthIf (colourPlace f) 6) s
+      → join (colourFields (colourPlace f) (pointOf f s))
+      ≡ part (20 + widthIf (timePlace f) 8) (widthIf (colourPlace f) 6) s
   unfolding total colourFields colours pointOf
   colour-back h = group-back s all (colourPlace f) (20 + widthIf (timePlace f) 8) (2 ∷ 2 ∷ 2 ∷ []) (layered f .colour) h
 

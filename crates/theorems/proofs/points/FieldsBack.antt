@@ -24,12 +24,14 @@ use Rattle.points.specs.Encoding.{ifPlaced, timeFields, colours, colourFields, 
 use Rattle.points.proofs.encoding.LayoutLaws.{sharedWidths, shared-fit, length-shared, length-time}
 
 -- a number among fields that were written one behind another
-among : (ws : List ℕ) (fs : List Bytes) (rest : Bytes) (i n : ℕ) → Fit ws fs → i < length ws → getD fs i [] ≡ bytesOf (getD ws i 0) n
+among : (ws : List ℕ) (fs : List Bytes) (rest : Bytes) (i n : ℕ) → Fit ws fs → i < length ws
+    → getD fs i [] ≡ bytesOf (getD ws i 0) n
     → n < 256 ^ getD ws i 0 → num (part (start i ws) (getD ws i 0) (join fs ++ rest)) ≡ n
 among ws fs rest i n fit h e small = ap num (field-back ws fs rest i fit h ∙ e) ∙ num-bytesOf (getD ws i 0) n small
 
 -- the same at a place, over the place: GPS time and colour
-placed-among : (place : Place) (k : ℕ) (x : Bytes) (ws : List ℕ) (fs : List Bytes) (rest : Bytes) (i n : ℕ) → Follows place k → length x ≡ k → Fit ws fs
+placed-among : (place : Place) (k : ℕ) (x : Bytes) (ws : List ℕ) (fs : List Bytes) (rest : Bytes) (i n : ℕ)
+    → Follows place k → length x ≡ k → Fit ws fs
     → i < length ws → getD fs i [] ≡ bytesOf (getD ws i 0) n → n < 256 ^ getD ws i 0
     → numberAt (getD ws i 0) place (start i ws) (x ++ (join (ifPlaced place fs) ++ rest)) ≡ valueIf place n
 unfolding numberAt valueIf ifPlaced
@@ -76,12 +78,15 @@ module _ (q : Point) (rest : Bytes) where
   abbrev written : Bytes
   written = join (sharedFields q) ++ rest
 
-  number : (i n : ℕ) → i < 9 → getD (sharedFields q) i [] ≡ bytesOf (getD sharedWidths i 0) n → n < 256 ^ getD sharedWidths i 0
+  number : (i n : ℕ) → i < 9 → getD (sharedFields q) i [] ≡ bytesOf (getD sharedWidths i 0) n
+      → n < 256 ^ getD sharedWidths i 0
       → num (part (start i sharedWidths) (getD sharedWidths i 0) written) ≡ n
   number i n h e small = among sharedWidths (sharedFields q) rest i n (shared-fit q) h e small
 
-  axis : (i : ℕ) (z : ℤ) → SFits w32 z → i < 9 → getD (sharedFields q) i [] ≡ bytesOf (getD sharedWidths i 0) (ofZ w32 z)
-      → ofZ w32 z < 256 ^ getD sharedWidths i 0 → toZ w32 (num (part (start i sharedWidths) (getD sharedWidths i 0) written)) ≡ z
+  axis : (i : ℕ) (z : ℤ) → SFits w32 z → i < 9
+      → getD (sharedFields q) i [] ≡ bytesOf (getD sharedWidths i 0) (ofZ w32 z)
+      → ofZ w32 z < 256 ^ getD sharedWidths i 0
+      → toZ w32 (num (part (start i sharedWidths) (getD sharedWidths i 0) written)) ≡ z
   axis i z f h e small = ap (toZ w32) (number i (ofZ w32 z) h e small) ∙ toZ-ofZ w32 z f
 
 pub fields-back : (f : ℕ) (q : Point) (rest : Bytes) → InRange q → q .«return_number» ≤ 7 → q .returns ≤ 7

@@ -43,7 +43,8 @@ unfolding fieldsIf
 fields-given Passes p q e = (refl, cc)
 fields-given (Fails n) p q e = let z : _≡_ {A = ℕ} 0 1 = cc in absurd (omega arith)
 
-was-decoded : (f len : ℕ) (s : Bytes) (q : Point) → decoded f len s ≡ Fields q → Clear (shape f len (length s)) × (pointOf f s ≡ q)
+was-decoded : (f len : ℕ) (s : Bytes) (q : Point) → decoded f len s ≡ Fields q
+    → Clear (shape f len (length s)) × (pointOf f s ≡ q)
 unfolding decoded decodeChecks
 was-decoded f len s q e =
     let g : (firstFailing (decodeChecks f len s) ≡ Passes) × (pointOf f s ≡ q) = fields-given (firstFailing (decodeChecks f len s)) (pointOf f s) q e in
@@ -65,7 +66,8 @@ own-bytes f s room all le h same extra =
     (front-stored (take n s) room n (length-take-le n s h) (omega arith) ∙ rw extra (take-append-drop n s))
 
 encode-after-decode : (f len : ℕ) (bytes room : Bytes) (q : Point) → AllBytes bytes → decoded f len bytes ≡ Fields q
-    → length room ≡ length bytes → drop (formatSize f) room ≡ drop (formatSize f) bytes → encoded f len q room ≡ (Passes, bytes)
+    → length room ≡ length bytes → drop (formatSize f) room ≡ drop (formatSize f) bytes
+    → encoded f len q room ≡ (Passes, bytes)
 encode-after-decode f len bytes room q all e same extra =
     let g : Clear (shape f len (length bytes)) × (pointOf f bytes ≡ q) = was-decoded f len bytes q e in
     let k : Shaped f len (length bytes) = shaped f len (length bytes) (g .0) in
@@ -81,7 +83,8 @@ unfolding storedIf
 stored-passes Passes b room e = refl
 stored-passes (Fails n) b room e = e
 
-was-encoded : (f len : ℕ) (q : Point) (room : Bytes) → encoded f len q room .0 ≡ Passes → Clear (shape f len (length room)) × Clear (large q)
+was-encoded : (f len : ℕ) (q : Point) (room : Bytes) → encoded f len q room .0 ≡ Passes
+    → Clear (shape f len (length room)) × Clear (large q)
 unfolding encoded encodeChecks
 was-encoded f len q room e =
     let g = none-fails (encodeChecks f len q room) (stored-passes (firstFailing (encodeChecks f len q room)) (pointBytes f q) room e) in

@@ -45,11 +45,13 @@ module _ (s : Bytes) (passes : fileVerdict s ≡ Passes) where
   )
 
   step-is : (k index position : ℕ) → Left (suc k) index position
-      → stepOf s index position ≡ Record (recordPlaces s position) (cursor (index + 1) (position + sizeOf 2 (drop position s)))
+      → stepOf s index position
+      ≡ Record (recordPlaces s position) (cursor (index + 1) (position + sizeOf 2 (drop position s)))
   unfolding nextCursor
   step-is k index position l = answered s index position passes (clear k index position l)
 
-  left-next : (k index position : ℕ) → Left (suc k) index position → Left k (index + 1) (position + sizeOf 2 (drop position s))
+  left-next : (k index position : ℕ) → Left (suc k) index position
+      → Left k (index + 1) (position + sizeOf 2 (drop position s))
   left-next k index position l =
       record {
         counted = omega (arith, l .counted);
@@ -57,7 +59,8 @@ module _ (s : Bytes) (passes : fileVerdict s ≡ Passes) where
         before = rw (walkEnd-step 2 k position s) at (l .before);
       }
 
-  visits-left : (k m index position : ℕ) → Left k index position → visited (k + suc m) s (cursor index position) ≡ map (recordPlaces s) (places 2 k position s)
+  visits-left : (k m index position : ℕ) → Left k index position
+      → visited (k + suc m) s (cursor index position) ≡ map (recordPlaces s) (places 2 k position s)
   unfolding visited collect
   visits-left zero m index position l =
       let e : 0 + suc m ≡ suc m = omega arith in
@@ -69,7 +72,9 @@ module _ (s : Bytes) (passes : fileVerdict s ≡ Passes) where
       (ap (λ (t : Step). collect t (visited (k + suc m) s)) (step-is k index position l)
       ∙ ap (λ (r : List RecordPlaces). recordPlaces s position ∷ r) (visits-left k m (index + 1) (position + sizeOf 2 (drop position s)) (left-next k index position l)))
 
-  visits : (m : ℕ) → visited (recordCount s + suc m) s (cursor 0 (headerSize s)) ≡ map (recordPlaces s) (places 2 (recordCount s) (headerSize s) s)
+  visits : (m : ℕ)
+      → visited (recordCount s + suc m) s (cursor 0 (headerSize s))
+      ≡ map (recordPlaces s) (places 2 (recordCount s) (headerSize s) s)
   visits m =
       let p : Passed s = passed s passes in
       visits-left (recordCount s) m 0 (headerSize s) (record { counted = omega arith; behind = omega arith; before = rw (records-end s) at (p .walked) })

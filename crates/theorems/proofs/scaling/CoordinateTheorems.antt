@@ -1,5 +1,5 @@
--- The theorems about coordinates: a file that passes has finite coordinates in the order of their stored values, its scales and offsets
--- are carried by their bits, and the exact case is exact. Assumes nothing.
+-- The theorems about coordinates: a file that passes has finite coordinates in the order of their stored values, its
+-- scales and offsets are carried by their bits, and the exact case is exact. Assumes nothing.
 use mathlib.Core.Path.{_≡_, refl}
 use Prim.Native.Nat.{ℕ, zero, suc, _+_, _*_, _^_, _≤_, _<_}
 use native.Mathlib.Nat.{mul-le-mul}
@@ -64,7 +64,8 @@ product-size z n d h k = omega (arith, mul-le-mul h k)
 few-digits : (n : ℕ) → n ≤ 2 ^ 31 → n ≤ 2 ^ 53
 few-digits n h = omega arith
 
-product-bounded : (z : ℤ) (x : Float) → natAbs z ≤ 2 ^ 31 → Scale x → SizeUpTo (2 ^ 51) (mul binary64 (ofInt binary64 z) x)
+product-bounded : (z : ℤ) (x : Float) → natAbs z ≤ 2 ^ 31 → Scale x
+    → SizeUpTo (2 ^ 51) (mul binary64 (ofInt binary64 z) x)
 product-bounded z (fin false n d) h (p, k) =
     rw (product-is binary64 z n d (few-digits (natAbs z) h))
     (round-bounded binary64 (2 ^ 51) (negative z) (natAbs z * (n * up d)) (down d) (lit≤ tt) (down-pos d)
@@ -107,7 +108,8 @@ all-good c h =
     six (goodScale (c .«x_scale»)) (goodScale (c .«y_scale»)) (goodScale (c .«z_scale»))
     (goodOffset (c .«x_offset»)) (goodOffset (c .«y_offset»)) (goodOffset (c .«z_offset»)) h
 
-good-axis : (c : Scaling) → T (goodScaling c) → (axis : Axis) → T (goodScale (axisScale axis c)) × T (goodOffset (axisOffset axis c))
+good-axis : (c : Scaling) → T (goodScaling c) → (axis : Axis)
+    → T (goodScale (axisScale axis c)) × T (goodOffset (axisOffset axis c))
 unfolding axisScale axisOffset
 good-axis c h X = let g = all-good c h in (g .0, g .3)
 good-axis c h Y = let g = all-good c h in (g .1, g .4)
@@ -123,7 +125,8 @@ not-nan : (x : Float) → T (finite x) → T (not (isNan x))
 unfolding isNan
 not-nan (fin s m e) p = tt
 
-pub carried-at : (s : Bytes) (at : ℕ) → AllBytes s → T (finite (doubleAt s at)) → toBits binary64 (doubleAt s at) ≡ num (part at 8 s)
+pub carried-at : (s : Bytes) (at : ℕ) → AllBytes s → T (finite (doubleAt s at))
+    → toBits binary64 (doubleAt s at) ≡ num (part at 8 s)
 unfolding doubleAt
 carried-at s at h p = toBits-ofBits binary64 (num (part at 8 s)) (num-part-lt at 8 s h) (not-nan (doubleAt s at) p)
 
@@ -168,7 +171,7 @@ exact {k} {scale} {offset} {whole} e =
 -- the case is met by 2 ^ -k and each such offset
 pub exact-case : (k : ℕ) (whole : ℤ) → k ≤ 10 → natAbs whole ≤ 2 ^ 40
     → ExactCase k (fin false 1 (negℤ (pos k))) (ofInt binary64 whole) whole
-exact-case k whole h l = record { few = h; power = power k; is-whole = times-int binary64 whole (omega arith); small = l }
+exact-case k whole h l = record { few = omega arith; power = power k; is-whole = times-int binary64 whole (omega arith); small = l }
   where
     power : (k : ℕ) → Times k (fin false 1 (negℤ (pos k))) (pos 1)
     power zero = unfold Times signed in refl

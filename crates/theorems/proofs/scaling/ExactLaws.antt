@@ -1,4 +1,5 @@
--- Laws of `Times`: products and sums of doubles that are whole numbers over a power of two are exact while their sizes stay below 2 ^ prec.
+-- Laws of `Times`: products and sums of doubles that are whole numbers over a power of two are exact while their sizes
+-- stay below 2 ^ prec.
 -- Assumes nothing.
 use mathlib.Core.Path.{_≡_, refl, sym, ap, _∙_}
 use Prim.Native.Nat.{ℕ, _+_, _*_, _^_, _≤_, _<_}
@@ -15,14 +16,16 @@ use Rattle.theorems.proofs.scaling.RoundLaws.{round-kept, sum-rounded, 
 
 -- ---- `Times` by sign and size
 
-times-of : (k : ℕ) (x : Float) (s : Bool) (a : ℕ) (z : ℤ) → HasValue x s a (2 ^ k) → Same s a (negative z) (natAbs z) → Times k x z
+times-of : (k : ℕ) (x : Float) (s : Bool) (a : ℕ) (z : ℤ) → HasValue x s a (2 ^ k) → Same s a (negative z) (natAbs z)
+    → Times k x z
 unfolding Times
 times-of k (fin t m e) s a z v h =
     rw (v .0, v .1)
     (to-signed s (negative z) (a * down e) (natAbs z * down e) (Same-mul s (negative z) a (natAbs z) (down e) h)
     ∙ sym (int-times z (down e)))
 
-of-times : (k : ℕ) (s : Bool) (m : ℕ) (e : ℤ) (z : ℤ) → Times k (fin s m e) z → Same s (m * up e * 2 ^ k) (negative z) (natAbs z * down e)
+of-times : (k : ℕ) (s : Bool) (m : ℕ) (e : ℤ) (z : ℤ) → Times k (fin s m e) z
+    → Same s (m * up e * 2 ^ k) (negative z) (natAbs z * down e)
 unfolding Times
 of-times k s m e z h = of-signed s (negative z) (m * up e * 2 ^ k) (natAbs z * down e) (h ∙ int-times z (down e))
 
@@ -47,7 +50,8 @@ times-product f k z (fin false n d) kl small h =
 
 -- ±a / c + ±b / c, rounded, where the two are z / 2 ^ k and w / 2 ^ k
 times-sum : (f : Format) (k : ℕ) (s t : Bool) (a b c : ℕ) (z w : ℤ) → k ≤ low f → natAbs (z +ℤ w) < 2 ^ prec f → 0 < c
-    → Same s (a * 2 ^ k) (negative z) (natAbs z * c) → Same t (b * 2 ^ k) (negative w) (natAbs w * c) → Times k (sum f s a t b c) (z +ℤ w)
+    → Same s (a * 2 ^ k) (negative z) (natAbs z * c) → Same t (b * 2 ^ k) (negative w) (natAbs w * c)
+    → Times k (sum f s a t b c) (z +ℤ w)
 times-sum f k s t a b c z w kl small C p q =
     let v = z +ℤ w in
     let n = natAbs v in

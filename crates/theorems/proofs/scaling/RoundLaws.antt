@@ -1,5 +1,5 @@
--- Laws of rounding: a fraction of bounded size rounds to a finite double, in order, and is kept where the double can hold it. A sum of finite
--- doubles and a product are one rounding each. Assumes nothing.
+-- Laws of rounding: a fraction of bounded size rounds to a finite double, in order, and is kept where the double can
+-- hold it. A sum of finite doubles and a product are one rounding each. Assumes nothing.
 use mathlib.Core.Path.{_≡_, refl, sym, ap, _∙_, subst}
 use mathlib.Core.Logic.{_⊎_, inl, inr, ⊎-elim}
 use Prim.Native.Nat.{ℕ, zero, suc, zero-le, _+_, _-_, _*_, _^_, _≤_, _<_}
@@ -58,11 +58,13 @@ Le-test false true a b h = zeros a b (omega arith)
 Le-test true false a b h = either (ltb 0 (a + b)) (eqb a b && eqb a 0) 0 (a + b) (omega arith) (lt→ltb 0 (a + b)) (λ e. zeros a b (omega arith))
 Le-test true true a b h = either (ltb b a) (eqb a b && true) b a (omega arith) (lt→ltb b a) (λ e. equal a b true (sym e) tt)
 
-pub fin-le : (s t : Bool) (m n : ℕ) (e d : ℤ) → Le s (m * up e * down d) t (n * up d * down e) → T (le (fin s m e) (fin t n d))
+pub fin-le : (s t : Bool) (m n : ℕ) (e d : ℤ) → Le s (m * up e * down d) t (n * up d * down e)
+    → T (le (fin s m e) (fin t n d))
 unfolding le
 fin-le s t m n e d h = Le-test s t (m * up e * down d) (n * up d * down e) h
 
-pub le-fin : (s t : Bool) (m n : ℕ) (e d : ℤ) → T (le (fin s m e) (fin t n d)) → Le s (m * up e * down d) t (n * up d * down e)
+pub le-fin : (s t : Bool) (m n : ℕ) (e d : ℤ) → T (le (fin s m e) (fin t n d))
+    → Le s (m * up e * down d) t (n * up d * down e)
 unfolding le
 le-fin s t m n e d h = test-Le s t (m * up e * down d) (n * up d * down e) h
 
@@ -73,7 +75,8 @@ values-le : (x y : Float) (s t : Bool) (a c b d : ℕ) → 0 < c → 0 < d → H
 values-le (fin s' m e) (fin t' n i) s t a c b d C D v w h =
     fin-le s' t' m n e i (rw (v .0, w .0) (Le-cross s t (m * up e) (n * up i) (down e) (down i) a b c d C D (v .1) (w .1) h))
 
-le-values : (x y : Float) (s t : Bool) (a c b d : ℕ) → HasValue x s a c → HasValue y t b d → T (le x y) → Le s (a * d) t (b * c)
+le-values : (x y : Float) (s t : Bool) (a c b d : ℕ) → HasValue x s a c → HasValue y t b d → T (le x y)
+    → Le s (a * d) t (b * c)
 le-values (fin s' m e) (fin t' n i) s t a c b d v w h =
     Le-cross s t a b c d (m * up e) (n * up i) (down e) (down i) (down-pos e) (down-pos i) (sym (v .1)) (sym (w .1))
     (rw (v .0, w .0) at (le-fin s' t' m n e i h))
@@ -229,7 +232,8 @@ SizeUpTo B (fin s m e) = m * up e ≤ B * down e
 pub bounded-finite : (B : ℕ) (x : Float) → SizeUpTo B x → T (finite x)
 bounded-finite B (fin s m e) h = tt
 
-pub round-bounded : (f : Format) (B : ℕ) (s : Bool) (a c : ℕ) → B ≤ 2 ^ prec f → 0 < c → a ≤ B * c → SizeUpTo B (round f s a c)
+pub round-bounded : (f : Format) (B : ℕ) (s : Bool) (a c : ℕ) → B ≤ 2 ^ prec f → 0 < c → a ≤ B * c
+    → SizeUpTo B (round f s a c)
 round-bounded f B s a c held C h = of-value (round f s a c) (round-value f B held s a c C h)
   where
     of-value : (x : Float) → HasValue x s (grid f a c) (2 ^ low f) → SizeUpTo B x
@@ -239,7 +243,8 @@ round-bounded f B s a c held C h = of-value (round f s a c) (round-value f B hel
         (arith, Le-cross false false (m * up e) B (down e) 1 (grid f a c) B (2 ^ low f) 1 (pow-pos (low f)) (zero-lt-suc 0) (v .1) refl l)
 
 module _ (f : Format) (A B : ℕ) (held : A + B ≤ 2 ^ prec f) where
-  sum-size : (s t r : Bool) (x y e d n : ℕ) → x ≤ A * e → y ≤ B * d → Sum r n s (x * d) t (y * e) → n ≤ (A + B) * (e * d)
+  sum-size : (s t r : Bool) (x y e d n : ℕ) → x ≤ A * e → y ≤ B * d → Sum r n s (x * d) t (y * e)
+      → n ≤ (A + B) * (e * d)
   sum-size s t r x y e d n h k z =
       let p : x * d ≤ A * (e * d) = rw (mul-assoc A e d) at (mul-le-mul-right d h) in
       let q : y * e ≤ B * (e * d) = rw (mul-assoc B d e, mul-comm d e) at (mul-le-mul-right e k) in
@@ -255,7 +260,8 @@ module _ (f : Format) (A B : ℕ) (held : A + B ≤ 2 ^ prec f) where
       (round-value f (A + B) held (r .sign) (r .size) C (mul-pos (down-pos e) (down-pos d))
       (sum-size s t (r .sign) (m * up e) (n * up d) (down e) (down d) (r .size) h k (r .total))))
 
-  pub add-order : (x y o : Float) → SizeUpTo A x → SizeUpTo A y → SizeUpTo B o → T (le x y) → T (le (add f x o) (add f y o))
+  pub add-order : (x y o : Float) → SizeUpTo A x → SizeUpTo A y → SizeUpTo B o → T (le x y)
+      → T (le (add f x o) (add f y o))
   unfolding add
   add-order (fin s m e) (fin t n d) (fin u p c) hx hy ho l =
       let De = down e in

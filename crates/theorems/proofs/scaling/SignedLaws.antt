@@ -1,4 +1,5 @@
--- Laws of whole numbers by sign and size: ±a is plus s a - less s a, so that orders and sums are facts about natural numbers.
+-- Laws of whole numbers by sign and size: ±a is plus s a - less s a, so that orders and sums are facts about natural
+-- numbers.
 -- Assumes nothing.
 use mathlib.Core.Path.{_≡_, refl, sym, ap, _∙_}
 use Prim.Native.Nat.{ℕ, zero, suc, _+_, _-_, _*_, _≤_, _<_}

@@ -45,7 +45,8 @@ eq-same : (x y : Bytes) → x ≡ y → same x y ≡ true
 eq-same x y e = rw e (T-true (same y y) (same-refl y))
 
 -- a line that names a record is of kind 2, with the record's cut user ID and its ID
-names-record : (l user : Bytes) (id : ℕ) → (namesRecord l user id ≡ true) ↔ ((kind l ≡ 2) × (userID l ≡ user) × (recordID l ≡ id))
+names-record : (l user : Bytes) (id : ℕ)
+    → (namesRecord l user id ≡ true) ↔ ((kind l ≡ 2) × (userID l ≡ user) × (recordID l ≡ id))
 unfolding namesRecord
 names-record l user id = (
   λ e. let t = all-three (eqb (kind l) 2) (same (userID l) user) (eqb (recordID l) id) e in
@@ -56,7 +57,8 @@ names-record l user id = (
 -- ---- what is kept: some line says so
 
 module _ (p : Bytes → Bool) (P : Bytes → Type 0) (says : (l : Bytes) → (p l ≡ true) ↔ P l) where
-  pick : (l : Bytes) (ls : List Bytes) (b : Bool) → p l ≡ b → (b || some p ls) ≡ true → (some p ls ≡ true → SomeLine ls P) → SomeLine (l ∷ ls) P
+  pick : (l : Bytes) (ls : List Bytes) (b : Bool) → p l ≡ b → (b || some p ls) ≡ true
+      → (some p ls ≡ true → SomeLine ls P) → SomeLine (l ∷ ls) P
   pick l ls true q e later = record { line = l; among = List·Memᴰ·head refl; so = says l .0 q }
   pick l ls false q e later = let w : SomeLine ls P = later e in record { line = w .line; among = List·Memᴰ·tail (w .among); so = w .so }
 
@@ -73,25 +75,29 @@ module _ (p : Bytes → Bool) (P : Bytes → Type 0) (says : (l : Bytes) → (p 
   some-says : (ls : List Bytes) → (some p ls ≡ true) ↔ SomeLine ls P
   some-says ls = (some-line ls, λ w. line-some (w .line) ls (w .among) (says (w .line) .1 (w .so)))
 
-keeps-class : (sheet : Bytes) (c : ℕ) → (keepsClass sheet c ≡ true) ↔ SomeLine (lines sheet) (λ l. (kind l ≡ 1) × (lowest l ≤ c) × (c ≤ highest l))
+keeps-class : (sheet : Bytes) (c : ℕ)
+    → (keepsClass sheet c ≡ true) ↔ SomeLine (lines sheet) (λ l. (kind l ≡ 1) × (lowest l ≤ c) × (c ≤ highest l))
 unfolding keepsClass
 keeps-class sheet c = some-says (λ l. containsClass l c) (λ l. (kind l ≡ 1) × (lowest l ≤ c) × (c ≤ highest l)) (λ l. contains-class l c) (lines sheet)
 
 keeps-record : (sheet user : Bytes) (id : ℕ)
-    → (keepsRecord sheet user id ≡ true) ↔ SomeLine (lines sheet) (λ l. (kind l ≡ 2) × (userID l ≡ user) × (recordID l ≡ id))
+    → (keepsRecord sheet user id ≡ true)
+    ↔ SomeLine (lines sheet) (λ l. (kind l ≡ 2) × (userID l ≡ user) × (recordID l ≡ id))
 unfolding keepsRecord
 keeps-record sheet user id =
     some-says (λ l. namesRecord l user id) (λ l. (kind l ≡ 2) × (userID l ≡ user) × (recordID l ≡ id)) (λ l. names-record l user id) (lines sheet)
 
 same-lines : (s t : Bytes) → lines s ≡ lines t
-    → ((c : ℕ) → keepsClass s c ≡ keepsClass t c) × ((user : Bytes) (id : ℕ) → keepsRecord s user id ≡ keepsRecord t user id)
+    → ((c : ℕ) → keepsClass s c ≡ keepsClass t c)
+    × ((user : Bytes) (id : ℕ) → keepsRecord s user id ≡ keepsRecord t user id)
 unfolding keepsClass keepsRecord
 same-lines s t e = (λ c. rw e, λ user id. rw e)
 
 none : lines [] ≡ []
 none = lines-from [] ∙ lines-end 64 [] (omega arith)
 
-empty : (sheetVerdict [] ≡ Passes) × ((c : ℕ) → keepsClass [] c ≡ false) × ((user : Bytes) (id : ℕ) → keepsRecord [] user id ≡ false)
+empty : (sheetVerdict [] ≡ Passes) × ((c : ℕ) → keepsClass [] c ≡ false)
+    × ((user : Bytes) (id : ℕ) → keepsRecord [] user id ≡ false)
 unfolding keepsClass keepsRecord some
 empty = (verdict-from [] ∙ verdict-end 64 [] (omega arith), λ c. rw none, λ user id. rw none)
 

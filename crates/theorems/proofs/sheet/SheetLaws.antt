@@ -40,7 +40,8 @@ length-linesFrom (suc n) (b ∷ bs) =
 at-most-64 : (s : Bytes) → length (lines s) ≤ 64
 at-most-64 s = rw (lines-from s) (length-linesFrom 64 s)
 
-counted : (sheetVerdict (join (replicate 64 line)) ≡ Passes) × (sheetVerdict (join (replicate 64 line) ++ 0x4B ∷ []) ≡ Fails 24)
+counted : (sheetVerdict (join (replicate 64 line)) ≡ Passes)
+    × (sheetVerdict (join (replicate 64 line) ++ 0x4B ∷ []) ≡ Fails 24)
 unfolding sheetVerdict linesVerdict afterLine lineLength kind lowest highest lineChecks inOrder firstFailing failIf fails then same part join
 counted = (refl, refl)
 
