@@ -1,5 +1,4 @@
--- A file that has the bounds of some points in its header bounds them, by the order of coordinates that crate
--- `coordinates` proves.
+-- A file that has the bounds of some points in its header bounds them, by the order of coordinates.
 -- Assumes nothing.
 use mathlib.Core.Path.{_≡_, sym, ap, _∙_, subst}
 use Prim.Native.Nat.{ℕ, _+_, _*_, _^_, _≤_, _<_}

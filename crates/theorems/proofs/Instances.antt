@@ -45,10 +45,11 @@ use Rattle.capi.specs.PointAnswers.{pointNumbers, noPoint, decodedNumbers}
 use Rattle.theorems.specs.ZeroWhereAccepted.{isReleased}
 use Rattle.theorems.specs.Terms.{Good, needed, Accepted}
 use Rattle.theorems.specs.Coordinates.{X, Fits32, Times, Exact}
+use Rattle.theorems.specs.Demand3.{Same}
 use Rattle.theorems.specs.Recognised.{OutputUnder, GivesItself}
 use Rattle.theorems.specs.Demand1.{NothingChanged, EachNumber}
 use Rattle.theorems.specs.Samples.{sheet3, sheet4, sheet5, sheet6, point7, used, half, ten, file9}
-use Rattle.theorems.specs.Instances.{other9, filled, output9, fields7, numbers7, oneRecord, sheet64, Demand1Met, Demand3Met, RecognisedMet, ReleasedFileMet, BoundsOfKeptMet, SheetsMet, FilesMet, VisitsMet, RoundTripsMet, CoordinatesMet}
+use Rattle.theorems.specs.Instances.{other9, filled, output9, fields7, numbers7, oneRecord, sheet64, NothingChangedMet, EachNumberMet, ExactlyMet, ShortMet, AgainMet, RecognisedMet, CompleteMet, NeverLongerMet, BoundsOfKeptMet, SheetsMet, FilesMet, VisitsMet, RoundTripsMet, CoordinatesMet, OwnBitsMet}
 use Rattle.theorems.proofs.Samples.{computed}
 use Rattle.theorems.proofs.Demand1.{demand1}
 use Rattle.theorems.proofs.Demand3.{demand3}
@@ -106,38 +107,51 @@ accepted9 = record { bytes = good9 .bytes; answer = refl }
 
 -- ---- demand 3
 
-pub demand3-met : Demand3Met
-demand3-met =
+exactly9 : Same (release sheet3 file9 (filled 7)) (release sheet3 other9 (filled 9))
+    ↔ (publicOf sheet3 file9 ≡ publicOf sheet3 other9)
+exactly9 =
+    demand3 .exactly sheet3 file9 other9 (filled 7) (filled 9) sheet-passes9 good9 other-good9 refl
+    (omega (arith, needed9 .0)) (omega (arith, needed9 .1))
+
+pub exactly-met : ExactlyMet
+exactly-met =
     record {
       files-differ = λ e. omega (arith, ap length e, lengths .0, lengths .1);
       outputs-differ = λ e. let z : _≡_ {A = ℕ} 7 9 = cc in omega arith;
-      same = demand3 .exactly sheet3 file9 other9 (filled 7) (filled 9) sheet-passes9 good9 other-good9 refl room other-room .1 one-public-part;
-      one-public-part =
-          demand3 .exactly sheet3 file9 other9 (filled 7) (filled 9) sheet-passes9 good9 other-good9 refl room other-room .0
-          (demand3 .exactly sheet3 file9 other9 (filled 7) (filled 9) sheet-passes9 good9 other-good9 refl room other-room .1 one-public-part);
-      short = rw (needed9 .0) at (demand3 .short sheet3 file9 other9 (used 254) (zeros 254) sheet-passes9 good9 other-good9 refl one-public-part less);
+      same = exactly9 .1 one-public-part;
+      one-public-part = exactly9 .0 (exactly9 .1 one-public-part);
+    }
+
+pub short-met : ShortMet
+short-met =
+    record {
+      short =
+          rw (needed9 .0) at
+          (demand3 .short sheet3 file9 other9 (used 254) (zeros 254) sheet-passes9 good9 other-good9 refl one-public-part
+          (omega (arith, needed9 .0)));
+    }
+
+pub again-met : AgainMet
+again-met =
+    record {
       again-shorter = demand3 .again sheet3 file9 (filled 7) (used 260) 255 1 0 accepted9 (lit≤ tt);
       again-longer = demand3 .again sheet3 file9 (filled 7) (used 400) 255 1 0 accepted9 (lit≤ tt);
       again-same = demand3 .again-same sheet3 file9 (filled 7) (filled 9) 255 1 0 accepted9 refl;
     }
-  where
-    room : needed sheet3 file9 ≤ length (filled 7)
-    room = omega (arith, needed9 .0)
-
-    other-room : needed sheet3 other9 ≤ length (filled 9)
-    other-room = omega (arith, needed9 .1)
-
-    less : length (used 254) < needed sheet3 file9
-    less = omega (arith, needed9 .0)
 
 -- ---- a released file
 
-pub released-file-met : ReleasedFileMet
-released-file-met =
+pub complete-met : CompleteMet
+complete-met =
     record {
       holds = complete .holds sheet3 file9 (filled 7) 255 1 0 accepted9;
       counted = complete .counted sheet3 file9 (filled 7) 255 1 0 accepted9;
       rest = complete .rest sheet3 file9 (filled 7) 255 1 0 accepted9;
+    }
+
+pub never-longer-met : NeverLongerMet
+never-longer-met =
+    record {
       no-longer = never-longer .no-longer sheet3 file9 (filled 7) 255 1 0 accepted9;
       passes = never-longer .passes sheet3 file9 (filled 7) 255 1 0 accepted9;
       room = never-longer .room sheet3 file9 (used 347) sheet-passes9 good9 (omega (arith, lengths .0));
@@ -219,15 +233,20 @@ refused =
       accepts = refl;
     }
 
-pub demand1-met : Demand1Met
-demand1-met =
+pub nothing-changed-met : NothingChangedMet
+nothing-changed-met =
     let changed : NothingChanged = demand1 .nothing-changed in
-    let numbers : EachNumber = demand1 .each-number in
     record {
       encode = changed .encode 0 20 fields7 (used 19) 12 (refused .encode);
       las-encode = changed .las-encode 0 20 numbers7 (used 19) 11 (refused .las-encode);
       release = changed .release sheet3 file9 (used 254) (refused .release);
       las-release = changed .las-release file9 sheet3 (used 254) 29 (refused .las-release);
+    }
+
+pub each-number-met : EachNumberMet
+each-number-met =
+    let numbers : EachNumber = demand1 .each-number in
+    record {
       table = demand1 .tables .given ((51, not-so true) ∷ (50, 32768 below 40000) ∷ []) 50 .0 (unfold computed in refl);
       check-file = numbers .check-file (zeros 226) .refuses 0 .0 (refused .check-file);
       check-sheet = numbers .check-sheet sheet4 .refuses 22 .0 (refused .check-sheet);
@@ -361,6 +380,11 @@ coordinates-met =
       in-order = coordinates .finite-in-order (scalingOf file9) scaled9 X .in-order (negsuc 0) (pos 3) (small .0) (small .1) (record { le = tt });
       carried = coordinates .carried file9 (good9 .bytes) scaled9 X;
       exact = exact10 (negsuc 0) (small .0);
+    }
+
+pub own-bits-met : OwnBitsMet
+own-bits-met =
+    record {
       scales = own-bits .scales file9 (good9 .bytes) (good9 .passes) ∙ rw (doubles9 .0, doubles9 .1, doubles9 .2);
       offsets = own-bits .offsets file9 (good9 .bytes) (good9 .passes) ∙ rw (doubles9 .3, doubles9 .4, doubles9 .5);
     }

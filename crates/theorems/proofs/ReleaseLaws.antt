@@ -2,6 +2,7 @@
 -- Assumes nothing.
 use mathlib.Core.Path.{_≡_, sym, ap, _∙_, subst}
 use Prim.Native.Nat.{ℕ, _-_, _≤_}
+use native.Mathlib.Omega.{arith}
 use mathlib.Core.List.{_++_, append-nil}
 use lib.ListN.{length, take}
 use lib.Seq.{take-at}
@@ -75,7 +76,7 @@ accepted-output sheet f a sheetGood g room = ap (λ (o : Outcome). o .1) (releas
 pub accepted-means : (sheet f a : Bytes) (n q r : ℕ) → Accepted sheet f a n q r → Known sheet f a n q r
 accepted-means sheet f a n q r h =
     let t : Taken sheet f a n q r = release-taken sheet f a n q r (h .answer) in
-    let g : Good f = record { bytes = h .bytes; passes = t .file-passes } in
+    let g : Good f = record { bytes = λ i. omega (arith, h .bytes i); passes = t .file-passes } in
     let o : release sheet f a .1 ≡ released sheet f (length a - needed sheet f) = accepted-output sheet f a (t .sheet-passes) g (t .room) in
     let x : Bytes = render (publicOf sheet f) in
     record {

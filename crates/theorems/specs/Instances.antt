@@ -83,13 +83,15 @@ sheet64 = join (replicate 64 line)
 
 -- ---- demand 1
 
-pub record Demand1Met : Type 0 where
+pub record NothingChangedMet : Type 0 where
   -- a room of 19 bytes is refused and stays
   pub encode : encoded 0 20 fields7 (used 19) .1 ≡ used 19
   pub las-encode : lasEncode 0 20 numbers7 (used 19) .1 ≡ used 19
   -- so does an output of 254 bytes
   pub release : release sheet3 file9 (used 254) .1 ≡ used 254
   pub las-release : lasRelease file9 sheet3 (used 254) .1 ≡ used 254
+
+pub record EachNumberMet : Type 0 where
   -- the program's table gives 50 for a file of 40,000 bytes
   pub table : Given ((51, not-so true) ∷ (50, 32768 below 40000) ∷ []) 50
   -- a number of each function
@@ -109,17 +111,21 @@ pub record Demand1Met : Type 0 where
 
 -- ---- demand 3
 
-pub record Demand3Met : Type 0 where
+pub record ExactlyMet : Type 0 where
   -- two different files with one public part, into outputs that differ
   pub files-differ : file9 ≡ other9 → ⊥
   pub outputs-differ : filled 7 ≡ filled 9 → ⊥
   pub same : Same (release sheet3 file9 (filled 7)) (release sheet3 other9 (filled 9))
   pub one-public-part : publicOf sheet3 file9 ≡ publicOf sheet3 other9
+
+pub record ShortMet : Type 0 where
   -- into 254 bytes
   pub short : (releasedNumbers (release sheet3 file9 (used 254) .0) ≡ tooShort 255)
       × (release sheet3 file9 (used 254) .1 ≡ used 254)
       × (releasedNumbers (release sheet3 other9 (zeros 254) .0) ≡ tooShort 255)
       × (release sheet3 other9 (zeros 254) .1 ≡ zeros 254)
+
+pub record AgainMet : Type 0 where
   -- again, into a shorter output, a longer one, and one of the same length
   pub again-shorter : Again9 (used 260)
   pub again-longer : Again9 (used 400)
@@ -133,10 +139,12 @@ pub record RecognisedMet : Type 0 where
 
 -- ---- the released file
 
-pub record ReleasedFileMet : Type 0 where
+pub record CompleteMet : Type 0 where
   pub holds : OfOutput9 (Holds sheet3 file9)
   pub counted : Counted sheet3 file9 255 1 0
   pub rest : (length output9 ≡ 300) × (drop 255 output9 ≡ zeros 45)
+
+pub record NeverLongerMet : Type 0 where
   pub no-longer : 255 ≤ length file9
   pub passes : OfOutput9 (λ file. fileVerdict file ≡ Passes)
   pub room : releasedNumbers (release sheet3 file9 (used 347) .0) .number ≡ 0
@@ -180,5 +188,7 @@ pub record CoordinatesMet : Type 0 where
   -- 2 times the coordinate of -1 is -1 + 10 · 2
   pub exact : Times 1 (coordinateOf (negsuc 0) (fin false 1 (negsuc 0)) (ofInt binary64 (pos 10)))
       (negsuc 0 +ℤ pos 10 *ℤ pos 2)
+
+pub record OwnBitsMet : Type 0 where
   pub scales : lasReadHeader file9 .scale ≡ num half ∷ num half ∷ num half ∷ []
   pub offsets : lasReadHeader file9 .offset ≡ num ten ∷ num ten ∷ num ten ∷ []
