@@ -74,6 +74,6 @@ demand3 =
           let x = too-short sheet sheetGood f a goodF (needed sheet f) refl (omega arith) in
           let y = too-short sheet sheetGood g b goodG (needed sheet f) (ap (λ (p : Public). length (render p)) (sym public)) (omega arith) in
           (x .0, x .1, y .0, y .1);
-      again = again;
+      again = λ sheet f a b n q r h room. again sheet f a b n q r h (omega arith);
       again-same = again-same;
     }

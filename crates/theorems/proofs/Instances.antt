@@ -1,7 +1,7 @@
 -- The theorems applied to the samples' files, sheets and points: what they ask for is computed, and the rest is their
 -- word.
 -- Assumes nothing.
-use mathlib.Core.Path.{_≡_, refl, sym, ap, _∙_}
+use mathlib.Core.Path.{_≡_, refl, ap, _∙_}
 use mathlib.Core.Logic.{inl, _↔_}
 use Prim.Native.Nat.{ℕ, zero, suc, _+_, _^_, _≤_, _<_}
 use native.Mathlib.Omega.{arith}
@@ -22,12 +22,10 @@ use Rattle.points.specs.Formats.{formatSize}
 use Rattle.points.specs.Points.{decoded}
 use Rattle.scaling.specs.Coordinate.{coordinateOf}
 use Rattle.scaling.specs.Scaling.{scalingOf, goodScaling}
-use Rattle.lasfile.specs.FileChecks.{fileVerdict}
 use Rattle.lasfile.specs.HeaderFields.{headerSize, recordCount}
 use Rattle.lasfile.specs.Records.{places, recordLen}
 use Rattle.lasfile.specs.ReadBack.{SoundRecord}
 use Rattle.sheet.specs.Sheet.{sheetVerdict, lines}
-use Rattle.sheet.specs.Keeping.{keepsClass}
 use Rattle.publicpart.specs.Public.{publicOf}
 use Rattle.publicpart.specs.declared.Answer.the-variants.{Released}
 use Rattle.publicpart.specs.Release.{release}

@@ -5,7 +5,7 @@ use mathlib.Core.Logic.{_⊎_, inl, inr}
 use Prim.Native.Nat.{ℕ, _+_, _-_, _≤_}
 use native.Mathlib.Omega.{arith}
 use lib.ListN.{length, take, length-append, length-replicate}
-use Rattle.fields.specs.Bytes.{Bytes, AllBytes, zeros}
+use Rattle.fields.specs.Bytes.{Bytes, AllBytes}
 use Rattle.fields.specs.declared.Verdict.the-variants.{Passes}
 use Rattle.sheet.specs.Sheet.{sheetVerdict}
 use Rattle.publicpart.specs.Public.{publicOf}

@@ -1,16 +1,9 @@
 -- The samples P1 to P10 hold, by computing with the definitions.
 -- Assumes nothing.
-use mathlib.Core.Path.{_≡_, refl, ap}
-use Prim.Native.Nat.{ℕ, zero, suc}
-use native.Mathlib.Omega.{arith}
-use mathlib.Core.Bool.{Bool, true, _&&_}
-use mathlib.Core.List.{[], _∷_, _++_}
-use lib.ListN.{length, replicate}
+use mathlib.Core.Path.{refl, ap}
 use lib.Ieee.{toBits, ofBits, add, mul, ofInt, le}
-use lib.Ieee.Fits.{and-l, and-r}
-use lib.Dec.{T, ltb, ltb→lt, lit≤}
 use Rattle.fields.specs.Lists.{kept, consIf, some, total}
-use Rattle.fields.specs.Bytes.{Bytes, AllBytes, part, num, bytesOf, same, join, pieces}
+use Rattle.fields.specs.Bytes.{Bytes, part, num, bytesOf, same, join, pieces}
 use Rattle.fields.specs.Text.{cut, padded}
 use Rattle.fields.specs.Checks.{fails, failIf, firstFailing, then, numberOf}
 use Rattle.points.specs.Formats.{formatSize, timePlace, colourPlace, classOf}

@@ -1,13 +1,12 @@
 -- A table gives a number exactly where that number's check fails and none before it does.
 -- Assumes nothing.
 use mathlib.Core.Path.{_≡_, refl, sym, ap, _∙_, subst}
-use mathlib.Core.Logic.{_↔_}
 use Prim.Native.Nat.{ℕ, suc}
 use native.Mathlib.Omega.{arith}
 use mathlib.Core.Bool.{Bool, true, false, not}
 use mathlib.Core.List.{List, [], _∷_, _++_}
 use lib.Dec.{T}
-use Rattle.fields.specs.Checks.{Test, Clear, Check, fails, failIf, firstFailing, then, numberOf, AllClear}
+use Rattle.fields.specs.Checks.{Test, Clear, Check, fails, failIf, firstFailing, then, numberOf}
 use Rattle.fields.specs.declared.Verdict.{Verdict}
 use Rattle.fields.specs.declared.Verdict.the-variants.{Passes, Fails}
 use Rattle.fields.proofs.CheckLaws.{clear, unclear, none-fails, all-clear, gives}

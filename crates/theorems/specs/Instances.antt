@@ -3,7 +3,7 @@
 -- Assumes nothing.
 use mathlib.Core.Path.{_≡_}
 use Prim.Native.Nat.{ℕ, _≤_}
-use mathlib.Core.List.{List, [], _∷_, _++_, map}
+use mathlib.Core.List.{[], _∷_, _++_}
 use lib.Dec.{T}
 use lib.ListN.{length, drop, replicate}
 use lib.IntN.{ℤ, pos, negsuc, _+ℤ_, _*ℤ_}
@@ -20,13 +20,12 @@ use Rattle.points.specs.Encoding.{encodeChecks, encoded, blank}
 use Rattle.scaling.specs.Coordinate.{coordinateOf}
 use Rattle.scaling.specs.Scaling.{scalingOf}
 use Rattle.lasfile.specs.FileChecks.{fileChecks, fileVerdict}
-use Rattle.lasfile.specs.HeaderFields.{recordCount, headerSize}
 use Rattle.lasfile.specs.Passed.{Passed}
-use Rattle.lasfile.specs.Records.{Record, places, walk, walkEnd, recordsBytes}
+use Rattle.lasfile.specs.Records.{Record, walk, walkEnd, recordsBytes}
 use Rattle.reader.specs.Steps.{stepChecks, recordPlaces, stepOf, visited}
 use Rattle.reader.specs.declared.cursor.Step.the-variants.{Refused}
 use Rattle.reader.specs.OnePoint.{pointChecks}
-use Rattle.sheet.specs.Sheet.{kind, lowest, highest, userID, recordID, lines}
+use Rattle.sheet.specs.Sheet.{kind, lowest, highest, lines}
 use Rattle.sheet.specs.Keeping.{keepsClass}
 use Rattle.publicpart.specs.Public.{publicOf}
 use Rattle.publicpart.specs.Release.{release}
@@ -39,7 +38,7 @@ use Rattle.theorems.specs.Tables.{Given, sheetChecks, lookupChecks, rele
 use Rattle.theorems.specs.Demand3.{Same, tooShort, inLength}
 use Rattle.theorems.specs.Recognised.{OutputUnder, GivesItself}
 use Rattle.theorems.specs.ReleasedFile.{pointsKept, Holds, Counted}
-use Rattle.theorems.specs.Coordinates.{Axis, X, axisScale, axisOffset, Times, CarriedBits}
+use Rattle.theorems.specs.Coordinates.{X, axisScale, axisOffset, Times, CarriedBits}
 use Rattle.theorems.specs.BoundsOfKept.{Bounded, Binned}
 use Rattle.theorems.specs.Sheets.{line, SomeLine}
 use Rattle.theorems.specs.Visits.{cursor}
@@ -77,7 +76,7 @@ numbers7 = lasDecode 0 20 (point7 2)
 abbrev pub oneRecord : Record
 oneRecord = record { user = 0x41 ∷ []; id = 7; description = []; payload = 0x01 ∷ 0x02 ∷ [] }
 
--- a sheet of 64 lines, and the same with one byte more
+-- a sheet of 64 lines
 abbrev pub sheet64 : Bytes
 sheet64 = join (replicate 64 line)
 
@@ -86,9 +85,11 @@ sheet64 = join (replicate 64 line)
 pub record NothingChangedMet : Type 0 where
   -- a room of 19 bytes is refused and stays
   pub encode : encoded 0 20 fields7 (used 19) .1 ≡ used 19
+  -- of `las_encode` too
   pub las-encode : lasEncode 0 20 numbers7 (used 19) .1 ≡ used 19
   -- so does an output of 254 bytes
   pub release : release sheet3 file9 (used 254) .1 ≡ used 254
+  -- of `las_release` too
   pub las-release : lasRelease file9 sheet3 (used 254) .1 ≡ used 254
 
 pub record EachNumberMet : Type 0 where
@@ -112,10 +113,13 @@ pub record EachNumberMet : Type 0 where
 -- ---- demand 3
 
 pub record ExactlyMet : Type 0 where
-  -- two different files with one public part, into outputs that differ
+  -- two different files
   pub files-differ : file9 ≡ other9 → ⊥
+  -- into outputs that differ
   pub outputs-differ : filled 7 ≡ filled 9 → ⊥
+  -- the same numbers and bytes
   pub same : Same (release sheet3 file9 (filled 7)) (release sheet3 other9 (filled 9))
+  -- and, from that, one public part
   pub one-public-part : publicOf sheet3 file9 ≡ publicOf sheet3 other9
 
 pub record ShortMet : Type 0 where
@@ -134,61 +138,86 @@ pub record AgainMet : Type 0 where
 -- ---- a released file is known
 
 pub record RecognisedMet : Type 0 where
+  -- the output of sample P9's release gives itself
   pub gives-itself : GivesItself sheet3 output9 (filled 9)
+  -- and, from that, it came out of a release
   pub came-out : OutputUnder sheet3 output9
 
 -- ---- the released file
 
 pub record CompleteMet : Type 0 where
+  -- the output of sample P9's release holds the public part
   pub holds : OfOutput9 (Holds sheet3 file9)
+  -- 255 bytes, one point, no record
   pub counted : Counted sheet3 file9 255 1 0
+  -- 300 bytes, the last 45 of them zero
   pub rest : (length output9 ≡ 300) × (drop 255 output9 ≡ zeros 45)
 
 pub record NeverLongerMet : Type 0 where
+  -- 255 bytes of 347
   pub no-longer : 255 ≤ length file9
+  -- the output passes
   pub passes : OfOutput9 (λ file. fileVerdict file ≡ Passes)
+  -- an output of 347 bytes is not too short
   pub room : releasedNumbers (release sheet3 file9 (used 347) .0) .number ≡ 0
 
 pub record BoundsOfKeptMet : Type 0 where
+  -- the bounds of X are those of the one kept point
   pub bounded : OfOutput9 (λ out. Bounded file9 out (pointsKept sheet3 file9) X)
   -- under the empty sheet, as in sample P10
   pub no-points : OfOutput [] file9 (used 227) 227 (λ out. part 179 48 out ≡ zeros 48)
+  -- its bins count that point
   pub binned : OfOutput9 (λ out. Binned file9 out (pointsKept sheet3 file9))
 
 -- ---- sheets, files, points, coordinates
 
 pub record SheetsMet : Type 0 where
+  -- sample P3's sheet is its one line
   pub whole : join (lines sheet3) ≡ sheet3
+  -- some line keeps class 2
   pub class : SomeLine (lines sheet3) (λ l. (kind l ≡ 1) × (lowest l ≤ 2) × (2 ≤ highest l))
+  -- a 65th line keeps nothing
   pub by-lines : (c : ℕ) → keepsClass sheet64 c ≡ keepsClass (sheet64 ++ 0x4B ∷ []) c
 
 pub record FilesMet : Type 0 where
+  -- sample P9's file is as `Passed` says
   pub passed : Passed file9
+  -- and, from that, it passes
   pub passes : fileVerdict file9 ≡ Passes
+  -- a record that is written at 5 is read there
   pub walk-back : walk 2 1 5 (used 5 ++ (recordsBytes 2 (oneRecord ∷ []) ++ used 3)) ≡ oneRecord ∷ []
   -- a header of 54 bytes and a payload of 2
   pub walk-end-back : walkEnd 2 1 5 (used 5 ++ (recordsBytes 2 (oneRecord ∷ []) ++ used 3)) ≡ 61
 
 pub record VisitsMet : Type 0 where
+  -- two steps visit the one record of sample P9's file
   pub visits : visited 2 file9 (cursor 0 227) ≡ recordPlaces file9 227 ∷ []
+  -- and a second step gives 18
   pub ends-in-18 : stepOf file9 1 291 ≡ Refused 18
 
 pub record RoundTripsMet : Type 0 where
+  -- sample P7's bytes come back from their fields
   pub encode-after-decode : encoded 0 20 fields7 (used 20) ≡ (Passes, point7 2)
+  -- and its fields from their bytes
   pub decode-after-encode : decoded 0 20 (encoded 0 20 fields7 (used 20) .1) ≡ Fields (blank 0 fields7)
 
--- the double of a scale 0.5 or an offset 10 of the file
+-- an X coordinate of the file
 abbrev pub at9 : ℤ → Float
 at9 z = coordinateOf z (axisScale X (scalingOf file9)) (axisOffset X (scalingOf file9))
 
 pub record CoordinatesMet : Type 0 where
+  -- the coordinate of -1 is finite
   pub is-finite : T (finite (at9 (negsuc 0)))
+  -- and at most that of 3
   pub in-order : T (le (at9 (negsuc 0)) (at9 (pos 3)))
+  -- the scale and offset of X are carried by their bits
   pub carried : CarriedBits file9 X
   -- 2 times the coordinate of -1 is -1 + 10 · 2
   pub exact : Times 1 (coordinateOf (negsuc 0) (fin false 1 (negsuc 0)) (ofInt binary64 (pos 10)))
       (negsuc 0 +ℤ pos 10 *ℤ pos 2)
 
 pub record OwnBitsMet : Type 0 where
+  -- three scales of 0.5
   pub scales : lasReadHeader file9 .scale ≡ num half ∷ num half ∷ num half ∷ []
+  -- three offsets of 10
   pub offsets : lasReadHeader file9 .offset ≡ num ten ∷ num ten ∷ num ten ∷ []

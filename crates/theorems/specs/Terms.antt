@@ -12,11 +12,11 @@ use Rattle.publicpart.specs.Render.{render}
 use Rattle.publicpart.specs.declared.Answer.the-variants.{Released}
 use Rattle.publicpart.specs.Release.{release}
 
-pub record Good (file : Bytes) : Type 0 where
+pub record Good (s : Bytes) : Type 0 where
   -- a file is bytes
-  pub bytes : AllBytes file
+  pub bytes : AllBytes s
   -- and passes the file checks
-  pub passes : fileVerdict file ≡ Passes
+  pub passes : fileVerdict s ≡ Passes
 
 -- the length of the released file
 abbrev pub needed : Bytes → Bytes → ℕ

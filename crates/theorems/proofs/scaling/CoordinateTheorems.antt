@@ -171,7 +171,7 @@ exact {k} {scale} {offset} {whole} e =
 -- the case is met by 2 ^ -k and each such offset
 pub exact-case : (k : ℕ) (whole : ℤ) → k ≤ 10 → natAbs whole ≤ 2 ^ 40
     → ExactCase k (fin false 1 (negℤ (pos k))) (ofInt binary64 whole) whole
-exact-case k whole h l = record { few = omega arith; power = power k; is-whole = times-int binary64 whole (omega arith); small = l }
+exact-case k whole h l = record { few = h; power = power k; is-whole = times-int binary64 whole (omega arith); small = l }
   where
     power : (k : ℕ) → Times k (fin false 1 (negℤ (pos k))) (pos 1)
     power zero = unfold Times signed in refl
@@ -183,5 +183,5 @@ coordinates =
       finite-in-order = passing;
       carried = carried;
       exact = λ k scale offset whole e. exact e;
-      exact-case = exact-case;
+      exact-case = λ k whole h l. exact-case k whole (omega arith) l;
     }
