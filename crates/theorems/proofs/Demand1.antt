@@ -37,7 +37,7 @@ use Rattle.capi.specs.PointAnswers.{pointFields, noPoint, pointNumbers, decoded
 use Rattle.capi.specs.HeaderAnswers.{headerFields, noHeader, headerNumbers}
 use Rattle.capi.specs.Interface.{lasCheckFile, lasCheckSheet, lasReadHeader, lasVlrStep, lasPointAt, lasDecode, lasEncode, lasClassKept, lasRecordKept, lasGeokeyFind, lasRelease}
 use Rattle.theorems.specs.Terms.{needed}
-use Rattle.theorems.specs.Tables.{Follows, linesChecks, sheetChecks, isSome, chosen, valueChecks, parameterChecks, entryTable, keyTable, directoryTable, lookupChecks, releaseChecks}
+use Rattle.theorems.specs.Tables.{ByTable, linesChecks, sheetChecks, isSome, chosen, valueChecks, parameterChecks, entryTable, keyTable, directoryTable, lookupChecks, releaseChecks}
 use Rattle.theorems.specs.Demand1.{NothingChanged, EachNumber, Demand1}
 use Rattle.theorems.specs.ZeroWhereAccepted.{isReleased, isZero}
 use Rattle.theorems.proofs.capi.NumberLaws.{AboveZero}
@@ -131,7 +131,7 @@ file-first file = refl
 -- a table behind the file's
 behind-file : (file : Bytes) (cs : List Check) (number : ℕ) → AboveZero cs
     → number ≡ numberOf (then (fileVerdict file) (firstFailing cs))
-    → Follows number (fileChecks file ++ cs)
+    → ByTable number (fileChecks file ++ cs)
 behind-file file cs number above e =
     follows number (fileChecks file ++ cs) (above-both (fileChecks file) cs (file-above file) above)
     (e ∙ rw (file-first file) (ap numberOf (sym (joined (fileChecks file) cs))))
@@ -160,11 +160,11 @@ unfolding sheetChecks
 sheet-above sheet = lines-above 64 sheet
 
 -- the sheet's verdict is its table's first failing check
-pub sheet-first : (sheet : Bytes) → sheetVerdict sheet ≡ firstFailing (sheetChecks sheet)
+sheet-first : (sheet : Bytes) → sheetVerdict sheet ≡ firstFailing (sheetChecks sheet)
 unfolding sheetVerdict sheetChecks
 sheet-first sheet = lines-first 64 sheet
 
-by-sheet : (sheet : Bytes) (number : ℕ) → number ≡ numberOf (sheetVerdict sheet) → Follows number (sheetChecks sheet)
+by-sheet : (sheet : Bytes) (number : ℕ) → number ≡ numberOf (sheetVerdict sheet) → ByTable number (sheetChecks sheet)
 by-sheet sheet number e = follows number (sheetChecks sheet) (sheet-above sheet) (e ∙ ap numberOf (sheet-first sheet))
 
 -- ---- a lookup
@@ -186,9 +186,9 @@ unfolding either chosen
 of-chosen true g h cs ds x y = x
 of-chosen false g h cs ds x y = y
 
--- one table alone, and what it lets through has the number 0
-alone : (cs : List Check) (g : GeoKey) → geokeyNumbers g .number ≡ 0 → OfTable (answerIf (firstFailing cs) g) cs
-alone cs g e = decide (firstFailing cs)
+-- one table one-table, and what it lets through has the number 0
+one-table : (cs : List Check) (g : GeoKey) → geokeyNumbers g .number ≡ 0 → OfTable (answerIf (firstFailing cs) g) cs
+one-table cs g e = decide (firstFailing cs)
   where
     decide : (v : Verdict) → geokeyNumbers (answerIf v g) .number ≡ numberOf v
     decide Passes = unfold answerIf numberOf in e
@@ -201,18 +201,18 @@ found-first n cs g e = e
 
 double-table : (entry parameters : Bytes) → OfTable (doubleIn entry parameters) (doubleChecks entry parameters)
 unfolding doubleIn geokeyNumbers
-double-table entry parameters = alone (doubleChecks entry parameters) _ refl
+double-table entry parameters = one-table (doubleChecks entry parameters) _ refl
 
 text-table : (entry : Bytes) (at : ℕ) (parameters : Bytes)
     → OfTable (textIn entry at parameters) (textChecks entry parameters)
 unfolding textIn geokeyNumbers
-text-table entry at parameters = alone (textChecks entry parameters) _ refl
+text-table entry at parameters = one-table (textChecks entry parameters) _ refl
 
-in-parameters : (s entry : Bytes) (place : Option ℕ)
+parameters-table : (s entry : Bytes) (place : Option ℕ)
     → OfTable (inParameters s entry place) (parameterChecks s entry place)
 unfolding inParameters parameterChecks valueChecks isSome
-in-parameters s entry none = unfold geokeyNumbers numberOf firstFailing failIf fails in refl
-in-parameters s entry (some at) =
+parameters-table s entry none = unfold geokeyNumbers numberOf firstFailing failIf fails in refl
+parameters-table s entry (some at) =
     let parameters : Bytes = payloadAt s at in
     found-first 45 _ _
     (of-chosen (eqb (locationOf entry) 34736) (doubleIn entry parameters) (textIn entry at parameters) _ _
@@ -222,24 +222,24 @@ value-table : (v : ℕ) → OfTable (Value v) []
 unfolding geokeyNumbers numberOf firstFailing
 value-table v = refl
 
-from-entry : (s : Bytes) (entry : Option Bytes) → OfTable (fromEntry s entry) (keyTable s entry)
+entry-table : (s : Bytes) (entry : Option Bytes) → OfTable (fromEntry s entry) (keyTable s entry)
 unfolding fromEntry keyTable entryTable isSome
-from-entry s none = unfold geokeyNumbers numberOf firstFailing failIf fails in refl
-from-entry s (some entry) =
+entry-table s none = unfold geokeyNumbers numberOf firstFailing failIf fails in refl
+entry-table s (some entry) =
     found-first 42 _ _
     (behind (entryChecks entry) _ _
-    (of-chosen (eqb (locationOf entry) 0) _ _ [] _ (value-table _) (in-parameters s entry (projectionPlace s (locationOf entry)))))
+    (of-chosen (eqb (locationOf entry) 0) _ _ [] _ (value-table _) (parameters-table s entry (projectionPlace s (locationOf entry)))))
 
-from-directory : (s : Bytes) (key : ℕ) (place : Option ℕ)
+directory-table : (s : Bytes) (key : ℕ) (place : Option ℕ)
     → OfTable (fromDirectory s key place) ((40, not-so (isSome place)) ∷ directoryTable s key place)
 unfolding fromDirectory directoryTable isSome
-from-directory s key none = unfold geokeyNumbers numberOf firstFailing failIf fails in refl
-from-directory s key (some at) =
-    found-first 40 _ _ (behind (directoryChecks (payloadAt s at)) _ _ (from-entry s (entryOf (payloadAt s at) key)))
+directory-table s key none = unfold geokeyNumbers numberOf firstFailing failIf fails in refl
+directory-table s key (some at) =
+    found-first 40 _ _ (behind (directoryChecks (payloadAt s at)) _ _ (entry-table s (entryOf (payloadAt s at) key)))
 
 looked-up : (s : Bytes) (key : ℕ) → OfTable (lookup s key) (fileChecks s ++ lookupChecks s key)
 unfolding lookup lookupChecks fileVerdict
-looked-up s key = behind (fileChecks s) _ _ (from-directory s key (projectionPlace s 34735))
+looked-up s key = behind (fileChecks s) _ _ (directory-table s key (projectionPlace s 34735))
 
 chosen-above : (b : Bool) (cs ds : List Check) → AboveZero cs → AboveZero ds → AboveZero (chosen b cs ds)
 unfolding chosen
@@ -309,6 +309,7 @@ unfolding lasCheckFile lasCheckSheet lasReadHeader lasVlrStep lasPointAt lasDeco
     header.headerRead stepOf pointAtOf points.decoded encoding.encoded points.decodeChecks encoding.encodeChecks releaseChecks AboveZero isZero
 each-number =
     record {
+      sheet-verdict = sheet-first;
       check-file = λ file. follows (numberOf (fileVerdict file)) (fileChecks file) (file-above file) (ap numberOf (file-first file));
       check-sheet = λ sheet. by-sheet sheet (numberOf (sheetVerdict sheet)) refl;
       read-header =

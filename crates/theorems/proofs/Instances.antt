@@ -57,7 +57,7 @@ use Rattle.theorems.proofs.NeverLonger.{never-longer}
 use Rattle.theorems.proofs.BoundsOfKept.{bounds-of-kept}
 use Rattle.theorems.proofs.Files.{files}
 use Rattle.theorems.proofs.sheet.SheetLaws.{lines-are}
-use Rattle.theorems.proofs.sheet.KeepingLaws.{kept}
+use Rattle.theorems.proofs.sheet.KeepingLaws.{kept-by-lines}
 use Rattle.theorems.proofs.reader.Visits.{stepping}
 use Rattle.theorems.proofs.points.RoundTrips.{round-trips}
 use Rattle.theorems.proofs.scaling.CoordinateTheorems.{coordinates}
@@ -192,7 +192,7 @@ recognised-met =
 -- ---- demand 1
 
 -- what the functions give, by computing
-pub record Refused : Type 0 where
+pub record ComputedNumbers : Type 0 where
   pub encode : encoded 0 20 fields7 (used 19) .0 ≡ Fails 12
   pub las-encode : lasEncode 0 20 numbers7 (used 19) .0 ≡ 12
   pub release : isReleased (release sheet3 file9 (used 254) .0) ≡ false
@@ -208,12 +208,12 @@ pub record Refused : Type 0 where
   pub geokey-find : lasGeokeyFind file9 1024 .number ≡ 40
   pub accepts : lasRelease file9 sheet3 (used 255) .0 .number ≡ 0
 
-refused : Refused
+computed-numbers : ComputedNumbers
 unfolding computed encodeChecks large storedIf encoded header.fieldsIf headerRead stepOf recordIf pointAtOf pointIf keptUnder
     projectionPlace first orLater isProjection fromDirectory answerIf lookup
     headerNumbers noHeader recordNumbers noRecord pointNumbers noPoint decodedNumbers keptNumbers geokeyNumbers isReleased
     lasCheckFile lasCheckSheet lasReadHeader lasVlrStep lasPointAt lasDecode lasEncode lasClassKept lasRecordKept lasGeokeyFind lasRelease
-refused =
+computed-numbers =
     record {
       encode = refl;
       las-encode = refl;
@@ -235,10 +235,10 @@ pub nothing-changed-met : NothingChangedMet
 nothing-changed-met =
     let changed : NothingChanged = demand1 .nothing-changed in
     record {
-      encode = changed .encode 0 20 fields7 (used 19) 12 (refused .encode);
-      las-encode = changed .las-encode 0 20 numbers7 (used 19) 11 (refused .las-encode);
-      release = changed .release sheet3 file9 (used 254) (refused .release);
-      las-release = changed .las-release file9 sheet3 (used 254) 29 (refused .las-release);
+      encode = changed .encode 0 20 fields7 (used 19) 12 (computed-numbers .encode);
+      las-encode = changed .las-encode 0 20 numbers7 (used 19) 11 (computed-numbers .las-encode);
+      release = changed .release sheet3 file9 (used 254) (computed-numbers .release);
+      las-release = changed .las-release file9 sheet3 (used 254) 29 (computed-numbers .las-release);
     }
 
 pub each-number-met : EachNumberMet
@@ -246,18 +246,18 @@ each-number-met =
     let numbers : EachNumber = demand1 .each-number in
     record {
       table = demand1 .tables .given ((51, not-so true) ∷ (50, 32768 below 40000) ∷ []) 50 .0 (unfold computed in refl);
-      check-file = numbers .check-file (zeros 226) .refuses 0 .0 (refused .check-file);
-      check-sheet = numbers .check-sheet sheet4 .refuses 22 .0 (refused .check-sheet);
-      read-header = numbers .read-header (zeros 227) .refuses 1 .0 (refused .read-header);
-      vlr-step = numbers .vlr-step file9 1 291 .refuses 17 .0 (refused .vlr-step);
-      point-at = numbers .point-at file9 2 .refuses 10 .0 (refused .point-at);
-      decode = numbers .decode 0 20 (zeros 19) .refuses 11 .0 (refused .decode);
-      encode-number = numbers .encode 0 20 numbers7 (used 19) .refuses 11 .0 (refused .las-encode);
-      class-kept = numbers .class-kept sheet5 2 .refuses 21 .0 (refused .class-kept);
-      record-kept = numbers .record-kept sheet6 [] 0 .refuses 19 .0 (refused .record-kept);
-      geokey-find = numbers .geokey-find file9 1024 .refuses 39 .0 (refused .geokey-find);
-      release-number = numbers .release file9 sheet3 (used 254) .refuses 29 .0 (refused .las-release);
-      accepts = numbers .release file9 sheet3 (used 255) .accepts .0 (refused .accepts);
+      check-file = numbers .check-file (zeros 226) .refuses 0 .0 (computed-numbers .check-file);
+      check-sheet = numbers .check-sheet sheet4 .refuses 22 .0 (computed-numbers .check-sheet);
+      read-header = numbers .read-header (zeros 227) .refuses 1 .0 (computed-numbers .read-header);
+      vlr-step = numbers .vlr-step file9 1 291 .refuses 17 .0 (computed-numbers .vlr-step);
+      point-at = numbers .point-at file9 2 .refuses 10 .0 (computed-numbers .point-at);
+      decode = numbers .decode 0 20 (zeros 19) .refuses 11 .0 (computed-numbers .decode);
+      encode-number = numbers .encode 0 20 numbers7 (used 19) .refuses 11 .0 (computed-numbers .las-encode);
+      class-kept = numbers .class-kept sheet5 2 .refuses 21 .0 (computed-numbers .class-kept);
+      record-kept = numbers .record-kept sheet6 [] 0 .refuses 19 .0 (computed-numbers .record-kept);
+      geokey-find = numbers .geokey-find file9 1024 .refuses 39 .0 (computed-numbers .geokey-find);
+      release-number = numbers .release file9 sheet3 (used 254) .refuses 29 .0 (computed-numbers .las-release);
+      accepts = numbers .release file9 sheet3 (used 255) .accepts .0 (computed-numbers .accepts);
     }
 
 -- ---- sheets
@@ -266,8 +266,8 @@ pub sheets-met : SheetsMet
 sheets-met =
     record {
       whole = lines-are .whole sheet3 sheet-passes9;
-      class = kept .class sheet3 2 .0 (unfold computed in refl);
-      by-lines = kept .by-lines sheet64 (sheet64 ++ 0x4B ∷ []) (unfold computed in refl) .0;
+      class = kept-by-lines .class sheet3 2 .0 (unfold computed in refl);
+      by-lines = kept-by-lines .by-lines sheet64 (sheet64 ++ 0x4B ∷ []) (unfold computed in refl) .0;
     }
 
 -- ---- files and their records

@@ -10,9 +10,9 @@ use Rattle.fields.specs.Checks.{Test, Clear, Check, fails, failIf, firstFailing
 use Rattle.fields.specs.declared.Verdict.{Verdict}
 use Rattle.fields.specs.declared.Verdict.the-variants.{Passes, Fails}
 use Rattle.fields.proofs.CheckLaws.{clear, unclear, none-fails, all-clear, gives}
-use Rattle.theorems.specs.Tables.{Given, Follows}
+use Rattle.theorems.specs.Tables.{Given, ByTable}
 use Rattle.theorems.specs.Demand1.{TableLaws}
-use Rattle.theorems.specs.ZeroWhereAccepted.{passes, isZero}
+use Rattle.theorems.specs.ZeroWhereAccepted.{isPassing, isZero}
 use Rattle.theorems.proofs.capi.NumberLaws.{Numbered, AboveZero, first-numbered}
 
 -- ---- two tables, one behind the other
@@ -98,11 +98,11 @@ fails-with Passes n e = absurd (omega arith)
 fails-with (Fails m) n e = ap Fails e
 
 passes-with : (v : Verdict) → Numbered v → numberOf v ≡ 0 → v ≡ Passes
-unfolding Numbered numberOf passes isZero
+unfolding Numbered numberOf isPassing isZero
 passes-with Passes h e = refl
 passes-with (Fails n) h e = let z : true ≡ false = rw e at h in let y : _≡_ {A = ℕ} 0 1 = cc in absurd (omega arith)
 
-pub follows : (number : ℕ) (cs : List Check) → AboveZero cs → number ≡ numberOf (firstFailing cs) → Follows number cs
+pub follows : (number : ℕ) (cs : List Check) → AboveZero cs → number ≡ numberOf (firstFailing cs) → ByTable number cs
 unfolding numberOf
 follows number cs above e =
     record {

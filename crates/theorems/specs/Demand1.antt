@@ -16,11 +16,12 @@ use Rattle.points.specs.Encoding.{encodeChecks, encoded}
 use Rattle.lasfile.specs.FileChecks.{fileChecks}
 use Rattle.reader.specs.Steps.{stepChecks}
 use Rattle.reader.specs.OnePoint.{pointChecks}
+use Rattle.sheet.specs.Sheet.{sheetVerdict}
 use Rattle.publicpart.specs.Release.{release}
 use Rattle.capi.specs.PointAnswers.{givenPoint}
 use Rattle.capi.specs.declared.point.«las_point».{«las_point»}
 use Rattle.capi.specs.Interface.{lasCheckFile, lasCheckSheet, lasReadHeader, lasVlrStep, lasPointAt, lasDecode, lasEncode, lasClassKept, lasRecordKept, lasGeokeyFind, lasRelease}
-use Rattle.theorems.specs.Tables.{Given, Follows, sheetChecks, lookupChecks, releaseChecks}
+use Rattle.theorems.specs.Tables.{Given, ByTable, sheetChecks, lookupChecks, releaseChecks}
 use Rattle.theorems.specs.ZeroWhereAccepted.{isReleased}
 
 -- a refusal leaves the lent bytes as they were
@@ -47,33 +48,35 @@ pub record TableLaws : Type 0 where
 
 -- each exported function gives the numbers of one table
 pub record EachNumber : Type 0 where
+  -- a sheet's verdict is the first failing check of its table
+  pub sheet-verdict : (sheet : Bytes) → sheetVerdict sheet ≡ firstFailing (sheetChecks sheet)
   -- 1 to 10
-  pub check-file : (file : Bytes) → Follows (lasCheckFile file) (fileChecks file)
+  pub check-file : (file : Bytes) → ByTable (lasCheckFile file) (fileChecks file)
   -- 20 to 24
-  pub check-sheet : (sheet : Bytes) → Follows (lasCheckSheet sheet) (sheetChecks sheet)
+  pub check-sheet : (sheet : Bytes) → ByTable (lasCheckSheet sheet) (sheetChecks sheet)
   -- 1 to 10
-  pub read-header : (file : Bytes) → Follows (lasReadHeader file .number) (fileChecks file)
+  pub read-header : (file : Bytes) → ByTable (lasReadHeader file .number) (fileChecks file)
   -- 1 to 10, then 18
   pub vlr-step : (file : Bytes) (index position : ℕ)
-      → Follows (lasVlrStep file index position .number) (fileChecks file ++ stepChecks file index position)
+      → ByTable (lasVlrStep file index position .number) (fileChecks file ++ stepChecks file index position)
   -- 1 to 10, then 11
   pub point-at : (file : Bytes) (index : ℕ)
-      → Follows (lasPointAt file index .number) (fileChecks file ++ pointChecks file index)
+      → ByTable (lasPointAt file index .number) (fileChecks file ++ pointChecks file index)
   -- 12
   pub decode : (format len : ℕ) (bytes : Bytes)
-      → Follows (lasDecode format len bytes .number) (decodeChecks format len bytes)
+      → ByTable (lasDecode format len bytes .number) (decodeChecks format len bytes)
   -- 12, then 13
   pub encode : (format len : ℕ) (p : «las_point») (room : Bytes)
-      → Follows (lasEncode format len p room .0) (encodeChecks format len (givenPoint p) room)
+      → ByTable (lasEncode format len p room .0) (encodeChecks format len (givenPoint p) room)
   -- 20 to 24
-  pub class-kept : (sheet : Bytes) (class : ℕ) → Follows (lasClassKept sheet class .number) (sheetChecks sheet)
+  pub class-kept : (sheet : Bytes) (class : ℕ) → ByTable (lasClassKept sheet class .number) (sheetChecks sheet)
   -- 20 to 24
-  pub record-kept : (sheet user : Bytes) (id : ℕ) → Follows (lasRecordKept sheet user id .number) (sheetChecks sheet)
+  pub record-kept : (sheet user : Bytes) (id : ℕ) → ByTable (lasRecordKept sheet user id .number) (sheetChecks sheet)
   -- 1 to 10, then 40 to 46
   pub geokey-find : (file : Bytes) (key : ℕ)
-      → Follows (lasGeokeyFind file key .number) (fileChecks file ++ lookupChecks file key)
+      → ByTable (lasGeokeyFind file key .number) (fileChecks file ++ lookupChecks file key)
   -- 1 to 10, then 20 to 24, then 30
-  pub release : (file sheet out : Bytes) → Follows (lasRelease file sheet out .0 .number) (releaseChecks sheet file out)
+  pub release : (file sheet out : Bytes) → ByTable (lasRelease file sheet out .0 .number) (releaseChecks sheet file out)
 
 pub record Demand1 : Type 0 where
   -- a refusal changes nothing lent

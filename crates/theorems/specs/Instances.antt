@@ -37,7 +37,7 @@ use Rattle.theorems.specs.Terms.{OfOutput}
 use Rattle.theorems.specs.Tables.{Given, sheetChecks, lookupChecks, releaseChecks}
 use Rattle.theorems.specs.Demand3.{Same, tooShort, inLength}
 use Rattle.theorems.specs.Recognised.{OutputUnder, GivesItself}
-use Rattle.theorems.specs.ReleasedFile.{pointsKept, Holds, Counted}
+use Rattle.theorems.specs.ReleasedFile.{pointsKept, Holds, CountsKept}
 use Rattle.theorems.specs.Coordinates.{X, axisScale, axisOffset, Times, CarriedBits}
 use Rattle.theorems.specs.BoundsOfKept.{Bounded, Binned}
 use Rattle.theorems.specs.Sheets.{line, SomeLine}
@@ -149,7 +149,7 @@ pub record CompleteMet : Type 0 where
   -- the output of sample P9's release holds the public part
   pub holds : OfOutput9 (Holds sheet3 file9)
   -- 255 bytes, one point, no record
-  pub counted : Counted sheet3 file9 255 1 0
+  pub counted : CountsKept sheet3 file9 255 1 0
   -- 300 bytes, the last 45 of them zero
   pub rest : (length output9 ≡ 300) × (drop 255 output9 ≡ zeros 45)
 

@@ -37,7 +37,7 @@ pub record Holds (sheet f out : Bytes) : Type 0 where
   pub points : contents out .points ≡ pointsKept sheet f
 
 -- what the returned numbers count
-pub record Counted (sheet f : Bytes) (n points records : ℕ) : Type 0 where
+pub record CountsKept (sheet f : Bytes) (n points records : ℕ) : Type 0 where
   -- the kept points
   pub points-are : points ≡ length (pointsKept sheet f)
   -- the kept records
@@ -52,7 +52,7 @@ pub record Complete : Type 0 where
       → OfOutput sheet f a n (Holds sheet f)
   -- the returned numbers count what is kept
   pub counted : (sheet f a : Bytes) (n points records : ℕ) → Accepted sheet f a n points records
-      → Counted sheet f n points records
+      → CountsKept sheet f n points records
   -- the output keeps its length, and its rest is zero
   pub rest : (sheet f a : Bytes) (n points records : ℕ) → Accepted sheet f a n points records
       → (length (release sheet f a .1) ≡ length a) × (drop n (release sheet f a .1) ≡ zeros (length a - n))

@@ -30,7 +30,7 @@ pub record Given (cs : List Check) (n : ℕ) : Type 0 where
   pub own : Clear test → ⊥
 
 -- a number that a function gives follows a table
-pub record Follows (number : ℕ) (cs : List Check) : Type 0 where
+pub record ByTable (number : ℕ) (cs : List Check) : Type 0 where
   -- a number above 0 is given exactly under its own condition where no earlier one holds
   pub refuses : (n : ℕ) → (number ≡ suc n) ↔ Given cs (suc n)
   -- 0 is given exactly where no condition holds

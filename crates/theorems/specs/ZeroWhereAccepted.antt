@@ -34,9 +34,9 @@ use Rattle.capi.specs.Interface.{lasCheckFile, lasCheckSheet, lasReadHeader, la
 
 -- ---- which answers are accepted
 
-unfoldable pub passes : Verdict → Bool
-passes verdict.Passes = true
-passes (verdict.Fails n) = false
+unfoldable pub isPassing : Verdict → Bool
+isPassing verdict.Passes = true
+isPassing (verdict.Fails n) = false
 
 unfoldable pub hasFields : HeaderRead → Bool
 hasFields (header.Fields h) = true
@@ -71,10 +71,10 @@ unfoldable pub isZero : ℕ → Bool
 isZero n = eqb n 0
 
 pub record ZeroWhereAccepted : Type 0 where
-  -- a file passes
-  pub check-file : (file : Bytes) → isZero (lasCheckFile file) ≡ passes (fileVerdict file)
-  -- a sheet passes
-  pub check-sheet : (sheet : Bytes) → isZero (lasCheckSheet sheet) ≡ passes (sheetVerdict sheet)
+  -- a file isPassing
+  pub check-file : (file : Bytes) → isZero (lasCheckFile file) ≡ isPassing (fileVerdict file)
+  -- a sheet isPassing
+  pub check-sheet : (sheet : Bytes) → isZero (lasCheckSheet sheet) ≡ isPassing (sheetVerdict sheet)
   -- a header is read
   pub read-header : (file : Bytes) → isZero (lasReadHeader file .number) ≡ hasFields (headerRead file)
   -- a step answers a record
@@ -87,12 +87,12 @@ pub record ZeroWhereAccepted : Type 0 where
       → isZero (lasDecode format len bytes .number) ≡ isDecoded (decoded format len bytes)
   -- a point is encoded
   pub encode : (format len : ℕ) (p : «las_point») (room : Bytes)
-      → isZero (lasEncode format len p room .0) ≡ passes (encoded format len (givenPoint p) room .0)
-  -- a sheet that is asked about a class passes
-  pub class-kept : (sheet : Bytes) (class : ℕ) → isZero (lasClassKept sheet class .number) ≡ passes (sheetVerdict sheet)
-  -- a sheet that is asked about a record passes
+      → isZero (lasEncode format len p room .0) ≡ isPassing (encoded format len (givenPoint p) room .0)
+  -- a sheet that is asked about a class isPassing
+  pub class-kept : (sheet : Bytes) (class : ℕ) → isZero (lasClassKept sheet class .number) ≡ isPassing (sheetVerdict sheet)
+  -- a sheet that is asked about a record isPassing
   pub record-kept : (sheet user : Bytes) (id : ℕ)
-      → isZero (lasRecordKept sheet user id .number) ≡ passes (sheetVerdict sheet)
+      → isZero (lasRecordKept sheet user id .number) ≡ isPassing (sheetVerdict sheet)
   -- a key is found
   pub geokey-find : (file : Bytes) (k : ℕ) → isZero (lasGeokeyFind file k .number) ≡ isFound (lookup file k)
   -- a release is accepted

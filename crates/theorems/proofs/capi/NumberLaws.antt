@@ -1,4 +1,4 @@
--- No check of a table has the number 0, so a verdict's number is 0 exactly where it passes.
+-- No check of a table has the number 0, so a verdict's number is 0 exactly where it isPassing.
 -- Assumes nothing.
 use mathlib.Core.Path.{_≡_, refl}
 use Prim.Native.Nat.{ℕ, zero, suc}
@@ -10,11 +10,11 @@ use Rattle.fields.specs.declared.Verdict.{Verdict}
 use Rattle.fields.specs.declared.Verdict.the-variants.{Passes, Fails}
 use Rattle.lasfile.specs.FileChecks.{fileVerdict}
 use Rattle.sheet.specs.Sheet.{lineChecks, linesVerdict, sheetVerdict, afterLine}
-use Rattle.theorems.specs.ZeroWhereAccepted.{passes, isZero}
+use Rattle.theorems.specs.ZeroWhereAccepted.{isPassing, isZero}
 
--- a verdict whose number is 0 exactly where it passes
+-- a verdict whose number is 0 exactly where it isPassing
 unfoldable pub Numbered : Verdict → Type 0
-Numbered v = isZero (numberOf v) ≡ passes v
+Numbered v = isZero (numberOf v) ≡ isPassing v
 
 -- each number of a table is above 0
 unfoldable pub AboveZero : List Check → Type 0
@@ -22,12 +22,12 @@ AboveZero [] = Unit {0}
 AboveZero (c ∷ cs) = (isZero (c .0) ≡ false) × AboveZero cs
 
 fail-numbered : (b : Bool) (n : ℕ) (later : Verdict) → isZero n ≡ false → Numbered later → Numbered (failIf b n later)
-unfolding Numbered failIf passes numberOf
+unfolding Numbered failIf isPassing numberOf
 fail-numbered true n later h e = h
 fail-numbered false n later h e = e
 
 pub first-numbered : (cs : List Check) → AboveZero cs → Numbered (firstFailing cs)
-unfolding Numbered AboveZero firstFailing passes numberOf isZero
+unfolding Numbered AboveZero firstFailing isPassing numberOf isZero
 first-numbered [] h = refl
 first-numbered (c ∷ cs) h = fail-numbered (fails (c .1)) (c .0) (firstFailing cs) (h .0) (first-numbered cs (h .1))
 
@@ -45,7 +45,7 @@ unfolding lineChecks AboveZero isZero
 line-numbered s = first-numbered _ (refl, (refl, (refl, (refl, (refl, tt)))))
 
 lines-numbered : (n : ℕ) (s : Bytes) → Numbered (linesVerdict n s)
-unfolding linesVerdict Numbered passes numberOf isZero
+unfolding linesVerdict Numbered isPassing numberOf isZero
 lines-numbered zero [] = refl
 lines-numbered zero (b ∷ bs) = refl
 lines-numbered (suc n) [] = refl

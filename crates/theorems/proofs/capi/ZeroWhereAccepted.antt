@@ -29,32 +29,32 @@ use Rattle.capi.specs.RecordAnswers.{recordFields, noRecord, recordNumbers, geo
 use Rattle.capi.specs.PointAnswers.{pointFields, noPoint, pointNumbers, decodedNumbers}
 use Rattle.capi.specs.HeaderAnswers.{headerFields, noHeader, headerNumbers}
 use Rattle.capi.specs.Interface.{lasCheckFile, lasCheckSheet, lasReadHeader, lasVlrStep, lasPointAt, lasDecode, lasEncode, lasClassKept, lasRecordKept, lasGeokeyFind, lasRelease}
-use Rattle.theorems.specs.ZeroWhereAccepted.{passes, hasFields, hasRecord, hasPoint, isDecoded, isFound, isReleased, isZero, ZeroWhereAccepted}
+use Rattle.theorems.specs.ZeroWhereAccepted.{isPassing, hasFields, hasRecord, hasPoint, isDecoded, isFound, isReleased, isZero, ZeroWhereAccepted}
 use Rattle.theorems.proofs.capi.NumberLaws.{Numbered, AboveZero, first-numbered, then-numbered, file-numbered, sheet-numbered}
 
 -- ---- an answer that a verdict decides
 
 header-if : (v : Verdict) (h : Header) → Numbered v
     → isZero (headerNumbers (header.fieldsIf v h) .number) ≡ hasFields (header.fieldsIf v h)
-unfolding header.fieldsIf headerNumbers headerFields noHeader hasFields Numbered passes numberOf isZero
+unfolding header.fieldsIf headerNumbers headerFields noHeader hasFields Numbered isPassing numberOf isZero
 header-if Passes h e = refl
 header-if (Fails n) h e = e
 
 record-if : (v : Verdict) (r : RecordPlaces) (next : VlrCursor) → Numbered v
     → isZero (recordNumbers (recordIf v r next) .number) ≡ hasRecord (recordIf v r next)
-unfolding recordIf recordNumbers recordFields noRecord hasRecord Numbered passes numberOf isZero
+unfolding recordIf recordNumbers recordFields noRecord hasRecord Numbered isPassing numberOf isZero
 record-if Passes r next e = refl
 record-if (Fails n) r next e = e
 
 point-if : (v : Verdict) (at : ℕ) (p : Point) → Numbered v
     → isZero (pointNumbers (pointIf v at p) .number) ≡ hasPoint (pointIf v at p)
-unfolding pointIf pointNumbers pointFields noPoint hasPoint Numbered passes numberOf isZero
+unfolding pointIf pointNumbers pointFields noPoint hasPoint Numbered isPassing numberOf isZero
 point-if Passes at p e = refl
 point-if (Fails n) at p e = e
 
 decoded-if : (v : Verdict) (p : Point) → Numbered v
     → isZero (decodedNumbers (points.fieldsIf v p) .number) ≡ isDecoded (points.fieldsIf v p)
-unfolding points.fieldsIf decodedNumbers pointFields noPoint isDecoded Numbered passes numberOf isZero
+unfolding points.fieldsIf decodedNumbers pointFields noPoint isDecoded Numbered isPassing numberOf isZero
 decoded-if Passes p e = refl
 decoded-if (Fails n) p e = e
 
@@ -63,8 +63,8 @@ unfolding encoding.storedIf
 stored-if Passes b room e = e
 stored-if (Fails n) b room e = e
 
-kept-if : (v : Verdict) (kept : Bool) → Numbered v → isZero (keptNumbers (keptUnder v kept) .number) ≡ passes v
-unfolding keptUnder keptNumbers Numbered passes numberOf isZero
+kept-if : (v : Verdict) (kept : Bool) → Numbered v → isZero (keptNumbers (keptUnder v kept) .number) ≡ isPassing v
+unfolding keptUnder keptNumbers Numbered isPassing numberOf isZero
 kept-if Passes true e = refl
 kept-if Passes false e = refl
 kept-if (Fails n) kept e = e
@@ -75,7 +75,7 @@ NumberedKey : GeoKey → Type 0
 NumberedKey g = isZero (geokeyNumbers g .number) ≡ isFound g
 
 answer-if : (v : Verdict) (g : GeoKey) → Numbered v → NumberedKey g → NumberedKey (answerIf v g)
-unfolding NumberedKey answerIf geokeyNumbers isFound Numbered passes numberOf
+unfolding NumberedKey answerIf geokeyNumbers isFound Numbered isPassing numberOf
 answer-if Passes g e h = h
 answer-if (Fails n) g e h = e
 
@@ -122,7 +122,7 @@ NumberedOutcome o = isZero (releasedNumbers (o .0) .number) ≡ isReleased (o .0
 
 refuse-or : (v : Verdict) (out : Bytes) (later : Outcome) → Numbered v → NumberedOutcome later
     → NumberedOutcome (refuseOr v out later)
-unfolding NumberedOutcome refuseOr releasedNumbers isReleased Numbered passes numberOf
+unfolding NumberedOutcome refuseOr releasedNumbers isReleased Numbered isPassing numberOf
 refuse-or Passes out later e h = h
 refuse-or (Fails n) out later e h = e
 
@@ -132,9 +132,9 @@ unfolding NumberedOutcome shortOr releasedNumbers isReleased isZero
 short-or true n out later h = refl
 short-or false n out later h = h
 
-released : (sheet s out : Bytes) → NumberedOutcome (release sheet s out)
+release-numbered : (sheet s out : Bytes) → NumberedOutcome (release sheet s out)
 unfolding release roomOr accepted NumberedOutcome releasedNumbers isReleased isZero
-released sheet s out =
+release-numbered sheet s out =
     refuse-or (then (fileVerdict s) (sheetVerdict sheet)) out _
     (then-numbered (fileVerdict s) (sheetVerdict sheet) (file-numbered s) (sheet-numbered sheet))
     (short-or _ _ out _ refl)
@@ -160,5 +160,5 @@ zero-where-accepted =
       class-kept = λ sheet class. kept-if (sheetVerdict sheet) _ (sheet-numbered sheet);
       record-kept = λ sheet user id. kept-if (sheetVerdict sheet) _ (sheet-numbered sheet);
       geokey-find = found;
-      release = λ file sheet out. released sheet file out;
+      release = λ file sheet out. release-numbered sheet file out;
     }

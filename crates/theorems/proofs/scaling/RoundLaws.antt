@@ -44,19 +44,19 @@ test-Le true true a b h = ⊎-elim (λ u. omega (arith, ltb→lt b a u)) (λ e. 
 equal : (a b : ℕ) (c : Bool) → a ≡ b → T c → T (eqb a b && c)
 equal a b c e t = and-i (eqb a b) c (eq→eqb e) t
 
-zeros : (a b : ℕ) → a + b ≤ 0 → T (eqb a b && eqb a 0)
-zeros a b h =
+both-zero : (a b : ℕ) → a + b ≤ 0 → T (eqb a b && eqb a 0)
+both-zero a b h =
     let e : a ≡ 0 = omega arith in
     equal a b (eqb a 0) (omega arith) (eq→eqb e)
 
-either : (x y : Bool) (a b : ℕ) → a ≤ b → (a < b → T x) → (a ≡ b → T y) → T (x || y)
-either x y a b h p q = ⊎-elim (λ e. or-r x y (q e)) (λ l. or-l x y (p l)) (eq-or-lt-of-le h)
+either-test : (x y : Bool) (a b : ℕ) → a ≤ b → (a < b → T x) → (a ≡ b → T y) → T (x || y)
+either-test x y a b h p q = ⊎-elim (λ e. or-r x y (q e)) (λ l. or-l x y (p l)) (eq-or-lt-of-le h)
 
 Le-test : (s t : Bool) (a b : ℕ) → Le s a t b → T (below s a t b || level s a t b)
-Le-test false false a b h = either (ltb a b) (eqb a b && true) a b (omega arith) (lt→ltb a b) (λ e. equal a b true e tt)
-Le-test false true a b h = zeros a b (omega arith)
-Le-test true false a b h = either (ltb 0 (a + b)) (eqb a b && eqb a 0) 0 (a + b) (omega arith) (lt→ltb 0 (a + b)) (λ e. zeros a b (omega arith))
-Le-test true true a b h = either (ltb b a) (eqb a b && true) b a (omega arith) (lt→ltb b a) (λ e. equal a b true (sym e) tt)
+Le-test false false a b h = either-test (ltb a b) (eqb a b && true) a b (omega arith) (lt→ltb a b) (λ e. equal a b true e tt)
+Le-test false true a b h = both-zero a b (omega arith)
+Le-test true false a b h = either-test (ltb 0 (a + b)) (eqb a b && eqb a 0) 0 (a + b) (omega arith) (lt→ltb 0 (a + b)) (λ e. both-zero a b (omega arith))
+Le-test true true a b h = either-test (ltb b a) (eqb a b && true) b a (omega arith) (lt→ltb b a) (λ e. equal a b true (sym e) tt)
 
 pub fin-le : (s t : Bool) (m n : ℕ) (e d : ℤ) → Le s (m * up e * down d) t (n * up d * down e)
     → T (le (fin s m e) (fin t n d))

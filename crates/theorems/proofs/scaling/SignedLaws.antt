@@ -22,8 +22,8 @@ abbrev pub Le : Bool → ℕ → Bool → ℕ → Type 0
 Le s a t b = plus s a + less t b ≤ plus t b + less s a
 
 -- ±a = ±b
-abbrev pub Same : Bool → ℕ → Bool → ℕ → Type 0
-Same s a t b = plus s a + less t b ≡ plus t b + less s a
+abbrev pub SameValue : Bool → ℕ → Bool → ℕ → Type 0
+SameValue s a t b = plus s a + less t b ≡ plus t b + less s a
 
 -- ±n = ±a + ±b
 abbrev pub Sum : Bool → ℕ → Bool → ℕ → Bool → ℕ → Type 0
@@ -45,10 +45,10 @@ Le-mul s t a b k h = simp (add-mul, plus-mul, less-mul) at (mul-le-mul-right k h
 pub Le-cancel : (s t : Bool) (a b k : ℕ) → 0 < k → Le s (a * k) t (b * k) → Le s a t b
 Le-cancel s t a b k K h = le-of-mul-le-mul-right (simp (add-mul, plus-mul, less-mul) h) K
 
-pub Same-mul : (s t : Bool) (a b k : ℕ) → Same s a t b → Same s (a * k) t (b * k)
+pub Same-mul : (s t : Bool) (a b k : ℕ) → SameValue s a t b → SameValue s (a * k) t (b * k)
 Same-mul s t a b k h = simp (add-mul, plus-mul, less-mul) at (ap (λ (n : ℕ). n * k) h)
 
-pub Same-cancel : (s t : Bool) (a b k : ℕ) → 0 < k → Same s (a * k) t (b * k) → Same s a t b
+pub Same-cancel : (s t : Bool) (a b k : ℕ) → 0 < k → SameValue s (a * k) t (b * k) → SameValue s a t b
 Same-cancel s t a b k K h = eq-of-mul-eq-mul-right k K _ _ (simp (add-mul, plus-mul, less-mul) h)
 
 pub Sum-mul : (r s t : Bool) (n a b k : ℕ) → Sum r n s a t b → Sum r (n * k) s (a * k) t (b * k)
@@ -68,7 +68,7 @@ Le-cross s t x y e i a b c d C D p q h =
 
 -- ---- equal numbers have equal sizes, and sums of ordered numbers are ordered
 
-pub same-size : (s t : Bool) (a b : ℕ) → Same s a t b → a ≡ b
+pub same-size : (s t : Bool) (a b : ℕ) → SameValue s a t b → a ≡ b
 same-size true true a b h = omega arith
 same-size true false a b h = omega arith
 same-size false true a b h = omega arith
@@ -132,7 +132,7 @@ size-signed true (suc a) = refl
 pub size-times : (z : ℤ) (d : ℕ) → natAbs (z *ℤ pos d) ≡ natAbs z * d
 size-times z d = ap natAbs (int-times z d) ∙ size-signed (negative z) (natAbs z * d)
 
-pub of-signed : (s t : Bool) (a b : ℕ) → signed s a ≡ signed t b → Same s a t b
+pub of-signed : (s t : Bool) (a b : ℕ) → signed s a ≡ signed t b → SameValue s a t b
 unfolding signed
 of-signed true true a b h = omega (arith, size-signed true a, size-signed true b, ap natAbs h)
 of-signed true false zero b h = omega (arith, ap natAbs h)
@@ -141,7 +141,7 @@ of-signed false true a zero h = omega (arith, ap natAbs h)
 of-signed false true a (suc b) h = cc
 of-signed false false a b h = omega (arith, ap natAbs h)
 
-pub to-signed : (s t : Bool) (a b : ℕ) → Same s a t b → signed s a ≡ signed t b
+pub to-signed : (s t : Bool) (a b : ℕ) → SameValue s a t b → signed s a ≡ signed t b
 unfolding signed
 to-signed true true a b h = let e : a ≡ b = omega arith in rw e
 to-signed true false a b h = let z : a ≡ 0 = omega arith in let e : b ≡ 0 = omega arith in rw (z, e)

@@ -101,5 +101,5 @@ empty : (sheetVerdict [] ≡ Passes) × ((c : ℕ) → keepsClass [] c ≡ false
 unfolding keepsClass keepsRecord some
 empty = (verdict-from [] ∙ verdict-end 64 [] (omega arith), λ c. rw none, λ user id. rw none)
 
-pub kept : KeptByLines
-kept = record { class = keeps-class; entry = keeps-record; by-lines = same-lines; empty = empty }
+pub kept-by-lines : KeptByLines
+kept-by-lines = record { class = keeps-class; entry = keeps-record; by-lines = same-lines; empty = empty }
