@@ -29,6 +29,19 @@ use Rattle.sheet.specs.KeptAnswers.{keptUnder}
 use Rattle.geokeys.specs.GeoKeys.{directoryChecks, entryChecks, doubleChecks, textChecks, answerIf, either, doubleIn, textIn, inParameters, fromEntry, fromDirectory, lookup, locationOf, payloadAt, entryOf, projectionPlace}
 use Rattle.geokeys.specs.declared.GeoKey.{GeoKey}
 use Rattle.geokeys.specs.declared.GeoKey.the-variants.{Value}
+use Rattle.geokeys.specs.declared.GeoKey.the-variants as key
+use Rattle.points.specs.declared.Decoded.{Decoded}
+use Rattle.points.specs.declared.Decoded.the-variants as point
+use Rattle.reader.specs.declared.header.HeaderRead.{HeaderRead}
+use Rattle.reader.specs.declared.header.HeaderRead.the-variants as read
+use Rattle.reader.specs.declared.cursor.Step.{Step}
+use Rattle.reader.specs.declared.cursor.Step.the-variants as step
+use Rattle.reader.specs.declared.point.PointAt.{PointAt}
+use Rattle.reader.specs.declared.point.PointAt.the-variants as place
+use Rattle.sheet.specs.declared.answers.Kept.{Kept}
+use Rattle.sheet.specs.declared.answers.Kept.the-variants as sheetKept
+use Rattle.sheet.specs.Keeping.{keepsClass, keepsRecord}
+use Rattle.fields.specs.Text.{cut}
 use Rattle.publicpart.specs.Public.{publicOf}
 use Rattle.publicpart.specs.Release.{Outcome, refuseOr, shortOr, accepted, roomOr, release}
 use Rattle.capi.specs.Answers.{releasedNumbers, keptNumbers}
@@ -38,10 +51,10 @@ use Rattle.capi.specs.HeaderAnswers.{headerFields, noHeader, headerNumbers}
 use Rattle.capi.specs.Interface.{lasCheckFile, lasCheckSheet, lasReadHeader, lasVlrStep, lasPointAt, lasDecode, lasEncode, lasClassKept, lasRecordKept, lasGeokeyFind, lasRelease}
 use Rattle.theorems.specs.Terms.{needed}
 use Rattle.theorems.specs.Tables.{ByTable, linesChecks, sheetChecks, isSome, chosen, valueChecks, parameterChecks, entryTable, keyTable, directoryTable, lookupChecks, releaseChecks}
-use Rattle.theorems.specs.Demand1.{NothingChanged, EachNumber, Demand1}
+use Rattle.theorems.specs.Demand1.{NothingChanged, refusal, ZerosBeside, EachNumber, Demand1}
 use Rattle.theorems.specs.ZeroWhereAccepted.{isReleased, isZero}
-use Rattle.theorems.proofs.capi.NumberLaws.{AboveZero}
-use Rattle.theorems.proofs.TableLaws.{joined, above-both, table-laws, follows}
+use Rattle.theorems.proofs.capi.NumberLaws.{Without}
+use Rattle.theorems.proofs.TableLaws.{joined, without-both, table-laws, never-given, follows}
 
 -- ---- a refusal changes nothing lent
 
@@ -120,8 +133,8 @@ kept-number (Fails n) kept = refl
 
 -- ---- the file
 
-file-above : (file : Bytes) → AboveZero (fileChecks file)
-unfolding AboveZero isZero
+file-above : (file : Bytes) → Without 0 (fileChecks file)
+unfolding Without isZero
 file-above file = (refl, (refl, (refl, (refl, (refl, (refl, (refl, (refl, (refl, (refl, tt))))))))))
 
 file-first : (file : Bytes) → fileVerdict file ≡ firstFailing (fileChecks file)
@@ -129,22 +142,28 @@ unfolding fileVerdict
 file-first file = refl
 
 -- a table behind the file's
-behind-file : (file : Bytes) (cs : List Check) (number : ℕ) → AboveZero cs
+behind-file : (file : Bytes) (cs : List Check) (number : ℕ) → Without 0 cs
     → number ≡ numberOf (then (fileVerdict file) (firstFailing cs))
     → ByTable number (fileChecks file ++ cs)
 behind-file file cs number above e =
-    follows number (fileChecks file ++ cs) (above-both (fileChecks file) cs (file-above file) above)
+    follows number (fileChecks file ++ cs) (without-both 0 (fileChecks file) cs (file-above file) above)
     (e ∙ rw (file-first file) (ap numberOf (sym (joined (fileChecks file) cs))))
 
 -- ---- the sheet
 
-lines-above : (n : ℕ) (s : Bytes) → AboveZero (linesChecks n s)
+-- what the checks of every line and 24 are without, the sheet's table is
+lines-without : (k : ℕ) → eqb 24 k ≡ false → ((s : Bytes) → Without k (lineChecks s)) → (n : ℕ) (s : Bytes)
+    → Without k (linesChecks n s)
 unfolding linesChecks
-lines-above zero s = unfold AboveZero isZero in (refl, tt)
-lines-above (suc n) [] = unfold AboveZero in tt
-lines-above (suc n) (b ∷ bs) =
-    above-both (lineChecks (b ∷ bs)) (linesChecks n (afterLine (b ∷ bs)))
-    (unfold lineChecks AboveZero isZero in (refl, (refl, (refl, (refl, (refl, tt)))))) (lines-above n (afterLine (b ∷ bs)))
+lines-without k h line zero s = unfold Without in (h, tt)
+lines-without k h line (suc n) [] = unfold Without in tt
+lines-without k h line (suc n) (b ∷ bs) =
+    without-both k (lineChecks (b ∷ bs)) (linesChecks n (afterLine (b ∷ bs))) (line (b ∷ bs))
+    (lines-without k h line n (afterLine (b ∷ bs)))
+
+line-without : (s : Bytes) → Without 0 (lineChecks s) × Without 30 (lineChecks s)
+unfolding lineChecks Without
+line-without s = ((refl, (refl, (refl, (refl, (refl, tt))))), (refl, (refl, (refl, (refl, (refl, tt))))))
 
 lines-first : (n : ℕ) (s : Bytes) → linesVerdict n s ≡ firstFailing (linesChecks n s)
 unfolding linesVerdict linesChecks
@@ -155,9 +174,9 @@ lines-first (suc n) (b ∷ bs) =
     ap (then (firstFailing (lineChecks (b ∷ bs)))) (lines-first n (afterLine (b ∷ bs)))
     ∙ sym (joined (lineChecks (b ∷ bs)) (linesChecks n (afterLine (b ∷ bs))))
 
-sheet-above : (sheet : Bytes) → AboveZero (sheetChecks sheet)
+sheet-above : (sheet : Bytes) → Without 0 (sheetChecks sheet)
 unfolding sheetChecks
-sheet-above sheet = lines-above 64 sheet
+sheet-above sheet = lines-without 0 refl (λ s. line-without s .0) 64 sheet
 
 -- the sheet's verdict is its table's first failing check
 sheet-first : (sheet : Bytes) → sheetVerdict sheet ≡ firstFailing (sheetChecks sheet)
@@ -241,33 +260,33 @@ looked-up : (s : Bytes) (key : ℕ) → OfTable (lookup s key) (fileChecks s ++ 
 unfolding lookup lookupChecks fileVerdict
 looked-up s key = behind (fileChecks s) _ _ (directory-table s key (projectionPlace s 34735))
 
-chosen-above : (b : Bool) (cs ds : List Check) → AboveZero cs → AboveZero ds → AboveZero (chosen b cs ds)
+chosen-above : (b : Bool) (cs ds : List Check) → Without 0 cs → Without 0 ds → Without 0 (chosen b cs ds)
 unfolding chosen
 chosen-above true cs ds h k = h
 chosen-above false cs ds h k = k
 
-value-above : (s entry : Bytes) (place : Option ℕ) → AboveZero (valueChecks s entry place)
-unfolding valueChecks AboveZero isZero
+value-above : (s entry : Bytes) (place : Option ℕ) → Without 0 (valueChecks s entry place)
+unfolding valueChecks Without isZero
 value-above s entry none = tt
 value-above s entry (some at) = chosen-above (eqb (locationOf entry) 34736) _ _ (refl, tt) (refl, tt)
 
-entry-above : (s : Bytes) (entry : Option Bytes) → AboveZero (entryTable s entry)
-unfolding entryTable parameterChecks AboveZero isZero
+entry-above : (s : Bytes) (entry : Option Bytes) → Without 0 (entryTable s entry)
+unfolding entryTable parameterChecks Without isZero
 entry-above s none = tt
 entry-above s (some entry) =
     let place : Option ℕ = projectionPlace s (locationOf entry) in
-    above-both (entryChecks entry) (chosen (eqb (locationOf entry) 0) [] (parameterChecks s entry place)) (refl, (refl, tt))
+    without-both 0 (entryChecks entry) (chosen (eqb (locationOf entry) 0) [] (parameterChecks s entry place)) (refl, (refl, tt))
     (chosen-above (eqb (locationOf entry) 0) [] (parameterChecks s entry place) tt (refl, value-above s entry place))
 
-directory-above : (s : Bytes) (key : ℕ) (place : Option ℕ) → AboveZero (directoryTable s key place)
-unfolding directoryTable keyTable AboveZero isZero
+directory-above : (s : Bytes) (key : ℕ) (place : Option ℕ) → Without 0 (directoryTable s key place)
+unfolding directoryTable keyTable Without isZero
 directory-above s key none = tt
 directory-above s key (some at) =
     let entry : Option Bytes = entryOf (payloadAt s at) key in
-    above-both (directoryChecks (payloadAt s at)) (keyTable s entry) (refl, tt) (refl, entry-above s entry)
+    without-both 0 (directoryChecks (payloadAt s at)) (keyTable s entry) (refl, tt) (refl, entry-above s entry)
 
-lookup-above : (s : Bytes) (key : ℕ) → AboveZero (lookupChecks s key)
-unfolding lookupChecks AboveZero isZero
+lookup-above : (s : Bytes) (key : ℕ) → Without 0 (lookupChecks s key)
+unfolding lookupChecks Without isZero
 lookup-above s key = (refl, directory-above s key (projectionPlace s 34735))
 
 -- ---- a release
@@ -302,11 +321,88 @@ released-number file sheet out =
     (then-then (fileVerdict file) (sheetVerdict sheet) (failIf (ltb (length out) (needed sheet file)) 30 Passes)
     ∙ ap (then (fileVerdict file)) (unfold firstFailing fails in behind-sheet sheet file out))
 
+-- ---- zeros beside a refusal
+
+header-zeros : (a : HeaderRead) (n : ℕ) → headerNumbers a .number ≡ suc n → headerNumbers a ≡ noHeader (suc n)
+unfolding headerNumbers headerFields noHeader
+header-zeros (read.Fields h) n e = absurd (omega arith)
+header-zeros (read.Refused m) n e = ap noHeader e
+
+step-zeros : (a : Step) (n : ℕ) → recordNumbers a .number ≡ suc n → recordNumbers a ≡ noRecord (suc n)
+unfolding recordNumbers recordFields noRecord
+step-zeros (step.Record r next) n e = absurd (omega arith)
+step-zeros (step.Refused m) n e = ap noRecord e
+
+point-zeros : (a : PointAt) (n : ℕ) → pointNumbers a .number ≡ suc n → pointNumbers a ≡ noPoint (suc n)
+unfolding pointNumbers pointFields noPoint
+point-zeros (place.At at p) n e = absurd (omega arith)
+point-zeros (place.Refused m) n e = ap noPoint e
+
+decoded-zeros : (a : Decoded) (n : ℕ) → decodedNumbers a .number ≡ suc n → decodedNumbers a ≡ noPoint (suc n)
+unfolding decodedNumbers pointFields noPoint
+decoded-zeros (point.Fields p) n e = absurd (omega arith)
+decoded-zeros (point.Refused m) n e = ap noPoint e
+
+kept-zeros : (a : Kept) (n : ℕ) → keptNumbers a .number ≡ suc n → keptNumbers a ≡ record { number = suc n; kept = 0 }
+unfolding keptNumbers
+kept-zeros sheetKept.Yes n e = absurd (omega arith)
+kept-zeros sheetKept.No n e = absurd (omega arith)
+kept-zeros (sheetKept.Refused m) n e = λ i. record { number = e i; kept = 0 }
+
+key-zeros : (a : GeoKey) (n : ℕ) → geokeyNumbers a .number ≡ suc n
+    → geokeyNumbers a ≡ record { number = suc n; location = 0; value = 0; length = 0 }
+unfolding geokeyNumbers
+key-zeros (key.Value v) n e = absurd (omega arith)
+key-zeros (key.Double bits) n e = absurd (omega arith)
+key-zeros (key.Text at m) n e = absurd (omega arith)
+key-zeros (key.Refused m) n e = λ i. record { number = e i; location = 0; value = 0; length = 0 }
+
+-- no check before the room has the number 30
+not-30 : (sheet file : Bytes) (n : ℕ) → then (fileVerdict file) (sheetVerdict sheet) ≡ Fails n → eqb n 30 ≡ false
+unfolding sheetChecks
+not-30 sheet file n e =
+    let cs : List Check = fileChecks file ++ sheetChecks sheet in
+    let all : then (fileVerdict file) (sheetVerdict sheet) ≡ firstFailing cs =
+    rw (file-first file, sheet-first sheet) (sym (joined (fileChecks file) (sheetChecks sheet))) in
+    never-given 30 cs
+    (without-both 30 (fileChecks file) (sheetChecks sheet) (file-without-30 file) (lines-without 30 refl (λ s. line-without s .1) 64 sheet))
+    n (sym all ∙ e)
+  where
+    file-without-30 : (file : Bytes) → Without 30 (fileChecks file)
+    file-without-30 file = unfold Without in (refl, (refl, (refl, (refl, (refl, (refl, (refl, (refl, (refl, (refl, tt))))))))))
+
+release-zeros : (v : Verdict) (short? : Bool) (m : ℕ) (out : Bytes) (o : Outcome) (n : ℕ)
+    → releasedNumbers (o .0) .number ≡ 0
+    → ((c : ℕ) → v ≡ Fails c → eqb c 30 ≡ false)
+    → releasedNumbers (refuseOr v out (shortOr short? m out o) .0) .number ≡ suc n
+    → releasedNumbers (refuseOr v out (shortOr short? m out o) .0) ≡ refusal (suc n) m
+unfolding refuseOr shortOr releasedNumbers refusal
+release-zeros (Fails c) short? m out o n h other e = rw (← e, other c refl)
+release-zeros Passes true m out o n h other e = rw (← e)
+release-zeros Passes false m out o n h other e = absurd (omega arith)
+
+zeros-beside : ZerosBeside
+unfolding lasReadHeader lasVlrStep lasPointAt lasDecode lasClassKept lasRecordKept lasGeokeyFind lasRelease release roomOr
+zeros-beside =
+    record {
+      read-header = λ file n e. header-zeros (header.headerRead file) n e;
+      vlr-step = λ file index position n e. step-zeros (stepOf file index position) n e;
+      point-at = λ file index n e. point-zeros (pointAtOf file index) n e;
+      decode = λ format len bytes n e. decoded-zeros (points.decoded format len bytes) n e;
+      class-kept = λ sheet class n e. kept-zeros (keptUnder (sheetVerdict sheet) (keepsClass sheet class)) n e;
+      record-kept = λ sheet user id n e. kept-zeros (keptUnder (sheetVerdict sheet) (keepsRecord sheet (cut user) id)) n e;
+      geokey-find = λ file key n e. key-zeros (lookup file key) n e;
+      release =
+          λ file sheet out n e.
+          release-zeros (then (fileVerdict file) (sheetVerdict sheet)) (ltb (length out) (needed sheet file)) (needed sheet file) out
+          (accepted (publicOf sheet file) (length out)) n (unfold accepted releasedNumbers in refl) (not-30 sheet file) e;
+    }
+
 -- ---- all of them
 
 each-number : EachNumber
 unfolding lasCheckFile lasCheckSheet lasReadHeader lasVlrStep lasPointAt lasDecode lasEncode lasClassKept lasRecordKept lasGeokeyFind lasRelease
-    header.headerRead stepOf pointAtOf points.decoded encoding.encoded points.decodeChecks encoding.encodeChecks releaseChecks AboveZero isZero
+    header.headerRead stepOf pointAtOf points.decoded encoding.encoded points.decodeChecks encoding.encodeChecks releaseChecks Without isZero
 each-number =
     record {
       sheet-verdict = sheet-first;
@@ -323,12 +419,12 @@ each-number =
       geokey-find =
           λ file key.
           follows _ (fileChecks file ++ lookupChecks file key)
-          (above-both (fileChecks file) (lookupChecks file key) (file-above file) (lookup-above file key)) (looked-up file key);
+          (without-both 0 (fileChecks file) (lookupChecks file key) (file-above file) (lookup-above file key)) (looked-up file key);
       release =
           λ file sheet out.
           behind-file file (sheetChecks sheet ++ roomChecks sheet file out) _
-          (above-both (sheetChecks sheet) (roomChecks sheet file out) (sheet-above sheet) (refl, tt)) (released-number file sheet out);
+          (without-both 0 (sheetChecks sheet) (roomChecks sheet file out) (sheet-above sheet) (refl, tt)) (released-number file sheet out);
     }
 
 pub demand1 : Demand1
-demand1 = record { nothing-changed = nothing-changed; tables = table-laws; each-number = each-number }
+demand1 = record { nothing-changed = nothing-changed; zeros-beside = zeros-beside; tables = table-laws; each-number = each-number }

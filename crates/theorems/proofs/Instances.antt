@@ -45,9 +45,9 @@ use Rattle.theorems.specs.Terms.{Good, needed, Accepted}
 use Rattle.theorems.specs.Coordinates.{X, Fits32, Times, Exact}
 use Rattle.theorems.specs.Demand3.{Same}
 use Rattle.theorems.specs.Recognised.{OutputUnder, GivesItself}
-use Rattle.theorems.specs.Demand1.{NothingChanged, EachNumber}
+use Rattle.theorems.specs.Demand1.{NothingChanged, refusal, ZerosBeside, EachNumber}
 use Rattle.theorems.specs.Samples.{sheet3, sheet4, sheet5, sheet6, point7, used, half, ten, file9}
-use Rattle.theorems.specs.Instances.{other9, filled, output9, fields7, numbers7, oneRecord, sheet64, NothingChangedMet, EachNumberMet, ExactlyMet, ShortMet, AgainMet, RecognisedMet, CompleteMet, NeverLongerMet, BoundsOfKeptMet, SheetsMet, FilesMet, VisitsMet, RoundTripsMet, CoordinatesMet, OwnBitsMet}
+use Rattle.theorems.specs.Instances.{other9, filled, output9, fields7, numbers7, oneRecord, sheet64, NothingChangedMet, ZerosBesideMet, EachNumberMet, ExactlyMet, ShortMet, AgainMet, RecognisedMet, CompleteMet, NeverLongerMet, BoundsOfKeptMet, SheetsMet, FilesMet, VisitsMet, RoundTripsMet, CoordinatesMet, OwnBitsMet}
 use Rattle.theorems.proofs.Samples.{computed}
 use Rattle.theorems.proofs.Demand1.{demand1}
 use Rattle.theorems.proofs.Demand3.{demand3}
@@ -239,6 +239,21 @@ nothing-changed-met =
       las-encode = changed .las-encode 0 20 numbers7 (used 19) 11 (computed-numbers .las-encode);
       release = changed .release sheet3 file9 (used 254) (computed-numbers .release);
       las-release = changed .las-release file9 sheet3 (used 254) 29 (computed-numbers .las-release);
+    }
+
+pub zeros-beside-met : ZerosBesideMet
+unfolding refusal
+zeros-beside-met =
+    let beside : ZerosBeside = demand1 .zeros-beside in
+    record {
+      read-header = beside .read-header (zeros 227) 1 (computed-numbers .read-header);
+      vlr-step = beside .vlr-step file9 1 291 17 (computed-numbers .vlr-step);
+      point-at = beside .point-at file9 2 10 (computed-numbers .point-at);
+      decode = beside .decode 0 20 (zeros 19) 11 (computed-numbers .decode);
+      class-kept = beside .class-kept sheet5 2 21 (computed-numbers .class-kept);
+      record-kept = beside .record-kept sheet6 [] 0 19 (computed-numbers .record-kept);
+      geokey-find = beside .geokey-find file9 1024 39 (computed-numbers .geokey-find);
+      release = beside .release file9 sheet3 (used 254) 29 (computed-numbers .las-release) ∙ rw (needed9 .0);
     }
 
 pub each-number-met : EachNumberMet

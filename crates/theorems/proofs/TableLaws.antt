@@ -5,7 +5,7 @@ use Prim.Native.Nat.{ℕ, suc}
 use native.Mathlib.Omega.{arith}
 use mathlib.Core.Bool.{Bool, true, false, not}
 use mathlib.Core.List.{List, [], _∷_, _++_}
-use lib.Dec.{T}
+use lib.Dec.{T, eqb}
 use Rattle.fields.specs.Checks.{Test, Clear, Check, fails, failIf, firstFailing, then, numberOf}
 use Rattle.fields.specs.declared.Verdict.{Verdict}
 use Rattle.fields.specs.declared.Verdict.the-variants.{Passes, Fails}
@@ -13,7 +13,7 @@ use Rattle.fields.proofs.CheckLaws.{clear, unclear, none-fails, all-clear, give
 use Rattle.theorems.specs.Tables.{Given, ByTable}
 use Rattle.theorems.specs.Demand1.{TableLaws}
 use Rattle.theorems.specs.ZeroWhereAccepted.{isPassing, isZero}
-use Rattle.theorems.proofs.capi.NumberLaws.{Numbered, AboveZero, first-numbered}
+use Rattle.theorems.proofs.capi.NumberLaws.{Numbered, Without, first-numbered}
 
 -- ---- two tables, one behind the other
 
@@ -28,10 +28,10 @@ joined [] ds = refl
 joined (c ∷ cs) ds =
     ap (failIf (fails (c .1)) (c .0)) (joined cs ds) ∙ fail-then (fails (c .1)) (c .0) (firstFailing cs) (firstFailing ds)
 
-pub above-both : (cs ds : List Check) → AboveZero cs → AboveZero ds → AboveZero (cs ++ ds)
-unfolding AboveZero
-above-both [] ds h k = k
-above-both (c ∷ cs) ds h k = (h .0, above-both cs ds (h .1) k)
+pub without-both : (n : ℕ) (cs ds : List Check) → Without n cs → Without n ds → Without n (cs ++ ds)
+unfolding Without
+without-both n [] ds h k = k
+without-both n (c ∷ cs) ds h k = (h .0, without-both n cs ds (h .1) k)
 
 -- ---- the number that is given
 
@@ -90,6 +90,19 @@ table-laws =
       passes = λ cs. (none-fails cs, all-clear cs);
     }
 
+-- ---- a number that no check has
+
+failed-otherwise : (k : ℕ) (b : Bool) (m : ℕ) (v : Verdict) (n : ℕ) → eqb m k ≡ false → (v ≡ Fails n → eqb n k ≡ false)
+    → failIf b m v ≡ Fails n → eqb n k ≡ false
+unfolding failIf
+failed-otherwise k true m v n h later e = let same : m ≡ n = cc in rw same at h
+failed-otherwise k false m v n h later e = later e
+
+pub never-given : (k : ℕ) (cs : List Check) → Without k cs → (n : ℕ) → firstFailing cs ≡ Fails n → eqb n k ≡ false
+unfolding firstFailing Without
+never-given k [] h n e = let z : _≡_ {A = ℕ} 0 1 = cc in absurd (omega arith)
+never-given k (c ∷ cs) h n e = failed-otherwise k (fails (c .1)) (c .0) (firstFailing cs) n (h .0) (never-given k cs (h .1) n) e
+
 -- ---- a function's number
 
 fails-with : (v : Verdict) (n : ℕ) → numberOf v ≡ suc n → v ≡ Fails (suc n)
@@ -102,7 +115,7 @@ unfolding Numbered numberOf isPassing isZero
 passes-with Passes h e = refl
 passes-with (Fails n) h e = let z : true ≡ false = rw e at h in let y : _≡_ {A = ℕ} 0 1 = cc in absurd (omega arith)
 
-pub follows : (number : ℕ) (cs : List Check) → AboveZero cs → number ≡ numberOf (firstFailing cs) → ByTable number cs
+pub follows : (number : ℕ) (cs : List Check) → Without 0 cs → number ≡ numberOf (firstFailing cs) → ByTable number cs
 unfolding numberOf
 follows number cs above e =
     record {

@@ -1,12 +1,13 @@
--- Demand 1: a refusal changes nothing lent, and each number is given exactly under its own condition where no earlier
--- one holds. `lasCoordinate` and `lasLevel` cannot refuse. What the program alone gives, 50 and 51, is the first
--- failing check of `inputChecks`: the two laws of tables say when.
+-- Demand 1: a refusal changes nothing lent and has zeros beside its number, and each number is given exactly under its
+-- own condition where no earlier one holds. `lasCoordinate` and `lasLevel` cannot refuse. What the program alone gives,
+-- 50 and 51, is the first failing check of `inputChecks`: the two laws of tables say when.
 -- Assumes nothing.
 use mathlib.Core.Path.{_≡_}
 use mathlib.Core.Logic.{_↔_}
 use Prim.Native.Nat.{ℕ, suc}
-use mathlib.Core.Bool.{false}
+use mathlib.Core.Bool.{false, cond}
 use mathlib.Core.List.{List, _++_}
+use lib.Dec.{eqb}
 use Rattle.fields.specs.Bytes.{Bytes}
 use Rattle.fields.specs.Checks.{Check, firstFailing, AllClear}
 use Rattle.fields.specs.declared.Verdict.the-variants.{Passes, Fails}
@@ -18,9 +19,13 @@ use Rattle.reader.specs.Steps.{stepChecks}
 use Rattle.reader.specs.OnePoint.{pointChecks}
 use Rattle.sheet.specs.Sheet.{sheetVerdict}
 use Rattle.publicpart.specs.Release.{release}
-use Rattle.capi.specs.PointAnswers.{givenPoint}
+use Rattle.capi.specs.declared.answers.«las_released».{«las_released»}
+use Rattle.capi.specs.HeaderAnswers.{noHeader}
+use Rattle.capi.specs.RecordAnswers.{noRecord}
+use Rattle.capi.specs.PointAnswers.{noPoint, givenPoint}
 use Rattle.capi.specs.declared.point.«las_point».{«las_point»}
 use Rattle.capi.specs.Interface.{lasCheckFile, lasCheckSheet, lasReadHeader, lasVlrStep, lasPointAt, lasDecode, lasEncode, lasClassKept, lasRecordKept, lasGeokeyFind, lasRelease}
+use Rattle.theorems.specs.Terms.{needed}
 use Rattle.theorems.specs.Tables.{Given, ByTable, sheetChecks, lookupChecks, releaseChecks}
 use Rattle.theorems.specs.ZeroWhereAccepted.{isReleased}
 
@@ -38,6 +43,36 @@ pub record NothingChanged : Type 0 where
   -- the output of `las_release`, where its number is not 0
   pub las-release : (file sheet out : Bytes) (n : ℕ)
       → lasRelease file sheet out .0 .number ≡ suc n → lasRelease file sheet out .1 ≡ out
+
+-- what a release answers where it is refused: 30 has the needed length beside it
+unfoldable pub refusal : ℕ → ℕ → «las_released»
+refusal n needed = record { number = n; length = cond (eqb n 30) needed 0; points = 0; records = 0 }
+
+-- a refusal has zeros beside its number
+pub record ZerosBeside : Type 0 where
+  -- where no header is read
+  pub read-header : (file : Bytes) (n : ℕ) → lasReadHeader file .number ≡ suc n → lasReadHeader file ≡ noHeader (suc n)
+  -- where no record is answered
+  pub vlr-step : (file : Bytes) (index position n : ℕ) → lasVlrStep file index position .number ≡ suc n
+      → lasVlrStep file index position ≡ noRecord (suc n)
+  -- where no point is answered
+  pub point-at : (file : Bytes) (index n : ℕ) → lasPointAt file index .number ≡ suc n
+      → lasPointAt file index ≡ noPoint (suc n)
+  -- or decoded
+  pub decode : (format len : ℕ) (bytes : Bytes) (n : ℕ) → lasDecode format len bytes .number ≡ suc n
+      → lasDecode format len bytes ≡ noPoint (suc n)
+  -- where a sheet that is asked about a class does not pass
+  pub class-kept : (sheet : Bytes) (class n : ℕ) → lasClassKept sheet class .number ≡ suc n
+      → lasClassKept sheet class ≡ record { number = suc n; kept = 0 }
+  -- or is asked about a record
+  pub record-kept : (sheet user : Bytes) (id n : ℕ) → lasRecordKept sheet user id .number ≡ suc n
+      → lasRecordKept sheet user id ≡ record { number = suc n; kept = 0 }
+  -- where no key is found
+  pub geokey-find : (file : Bytes) (key n : ℕ) → lasGeokeyFind file key .number ≡ suc n
+      → lasGeokeyFind file key ≡ record { number = suc n; location = 0; value = 0; length = 0 }
+  -- where a release is refused, 30 with the needed length
+  pub release : (file sheet out : Bytes) (n : ℕ) → lasRelease file sheet out .0 .number ≡ suc n
+      → lasRelease file sheet out .0 ≡ refusal (suc n) (needed sheet file)
 
 -- any table of checks
 pub record TableLaws : Type 0 where
@@ -81,6 +116,8 @@ pub record EachNumber : Type 0 where
 pub record Demand1 : Type 0 where
   -- a refusal changes nothing lent
   pub nothing-changed : NothingChanged
+  -- and has zeros beside its number
+  pub zeros-beside : ZerosBeside
   -- what any table of checks gives
   pub tables : TableLaws
   -- what each function gives

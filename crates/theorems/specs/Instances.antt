@@ -30,9 +30,11 @@ use Rattle.sheet.specs.Keeping.{keepsClass}
 use Rattle.publicpart.specs.Public.{publicOf}
 use Rattle.publicpart.specs.Release.{release}
 use Rattle.capi.specs.Answers.{releasedNumbers}
-use Rattle.capi.specs.PointAnswers.{givenPoint}
+use Rattle.capi.specs.HeaderAnswers.{noHeader}
+use Rattle.capi.specs.RecordAnswers.{noRecord}
+use Rattle.capi.specs.PointAnswers.{noPoint, givenPoint}
 use Rattle.capi.specs.declared.point.«las_point».{«las_point»}
-use Rattle.capi.specs.Interface.{lasReadHeader, lasDecode, lasEncode, lasRelease}
+use Rattle.capi.specs.Interface.{lasReadHeader, lasVlrStep, lasPointAt, lasDecode, lasEncode, lasClassKept, lasRecordKept, lasGeokeyFind, lasRelease}
 use Rattle.theorems.specs.Terms.{OfOutput}
 use Rattle.theorems.specs.Tables.{Given, sheetChecks, lookupChecks, releaseChecks}
 use Rattle.theorems.specs.Demand3.{Same, tooShort, inLength}
@@ -91,6 +93,23 @@ pub record NothingChangedMet : Type 0 where
   pub release : release sheet3 file9 (used 254) .1 ≡ used 254
   -- of `las_release` too
   pub las-release : lasRelease file9 sheet3 (used 254) .1 ≡ used 254
+
+pub record ZerosBesideMet : Type 0 where
+  -- 227 zero bytes have no header
+  pub read-header : lasReadHeader (zeros 227) ≡ noHeader 2
+  -- sample P9's file has one record
+  pub vlr-step : lasVlrStep file9 1 291 ≡ noRecord 18
+  -- and two points
+  pub point-at : lasPointAt file9 2 ≡ noPoint 11
+  -- 19 bytes are no point
+  pub decode : lasDecode 0 20 (zeros 19) ≡ noPoint 12
+  -- samples P5 and P6's sheets do not pass
+  pub class-kept : lasClassKept sheet5 2 ≡ record { number = 22; kept = 0 }
+  pub record-kept : lasRecordKept sheet6 [] 0 ≡ record { number = 20; kept = 0 }
+  -- sample P9's file has no directory
+  pub geokey-find : lasGeokeyFind file9 1024 ≡ record { number = 40; location = 0; value = 0; length = 0 }
+  -- 254 bytes are too few for 255
+  pub release : lasRelease file9 sheet3 (used 254) .0 ≡ record { number = 30; length = 255; points = 0; records = 0 }
 
 pub record EachNumberMet : Type 0 where
   -- the program's table gives 50 for a file of 40,000 bytes

@@ -89,7 +89,8 @@ pub record ZeroWhereAccepted : Type 0 where
   pub encode : (format len : ℕ) (p : «las_point») (room : Bytes)
       → isZero (lasEncode format len p room .0) ≡ isPassing (encoded format len (givenPoint p) room .0)
   -- a sheet that is asked about a class isPassing
-  pub class-kept : (sheet : Bytes) (class : ℕ) → isZero (lasClassKept sheet class .number) ≡ isPassing (sheetVerdict sheet)
+  pub class-kept : (sheet : Bytes) (class : ℕ)
+      → isZero (lasClassKept sheet class .number) ≡ isPassing (sheetVerdict sheet)
   -- a sheet that is asked about a record isPassing
   pub record-kept : (sheet user : Bytes) (id : ℕ)
       → isZero (lasRecordKept sheet user id .number) ≡ isPassing (sheetVerdict sheet)

@@ -4,6 +4,7 @@ use mathlib.Core.Path.{_≡_, refl}
 use Prim.Native.Nat.{ℕ, zero, suc}
 use mathlib.Core.Bool.{Bool, true, false}
 use mathlib.Core.List.{List, [], _∷_}
+use lib.Dec.{eqb}
 use Rattle.fields.specs.Bytes.{Bytes}
 use Rattle.fields.specs.Checks.{Check, failIf, firstFailing, fails, then, numberOf}
 use Rattle.fields.specs.declared.Verdict.{Verdict}
@@ -16,18 +17,18 @@ use Rattle.theorems.specs.ZeroWhereAccepted.{isPassing, isZero}
 unfoldable pub Numbered : Verdict → Type 0
 Numbered v = isZero (numberOf v) ≡ isPassing v
 
--- each number of a table is above 0
-unfoldable pub AboveZero : List Check → Type 0
-AboveZero [] = Unit {0}
-AboveZero (c ∷ cs) = (isZero (c .0) ≡ false) × AboveZero cs
+-- no check of a table has the number k
+unfoldable pub Without : ℕ → List Check → Type 0
+Without k [] = Unit {0}
+Without k (c ∷ cs) = (eqb (c .0) k ≡ false) × Without k cs
 
 fail-numbered : (b : Bool) (n : ℕ) (later : Verdict) → isZero n ≡ false → Numbered later → Numbered (failIf b n later)
 unfolding Numbered failIf isPassing numberOf
 fail-numbered true n later h e = h
 fail-numbered false n later h e = e
 
-pub first-numbered : (cs : List Check) → AboveZero cs → Numbered (firstFailing cs)
-unfolding Numbered AboveZero firstFailing isPassing numberOf isZero
+pub first-numbered : (cs : List Check) → Without 0 cs → Numbered (firstFailing cs)
+unfolding Numbered Without firstFailing isPassing numberOf isZero
 first-numbered [] h = refl
 first-numbered (c ∷ cs) h = fail-numbered (fails (c .1)) (c .0) (firstFailing cs) (h .0) (first-numbered cs (h .1))
 
@@ -37,11 +38,11 @@ then-numbered Passes w hv hw = hw
 then-numbered (Fails n) w hv hw = hv
 
 pub file-numbered : (file : Bytes) → Numbered (fileVerdict file)
-unfolding fileVerdict AboveZero isZero
+unfolding fileVerdict Without isZero
 file-numbered file = first-numbered _ (refl, (refl, (refl, (refl, (refl, (refl, (refl, (refl, (refl, (refl, tt))))))))))
 
 line-numbered : (s : Bytes) → Numbered (firstFailing (lineChecks s))
-unfolding lineChecks AboveZero isZero
+unfolding lineChecks Without isZero
 line-numbered s = first-numbered _ (refl, (refl, (refl, (refl, (refl, tt)))))
 
 lines-numbered : (n : ℕ) (s : Bytes) → Numbered (linesVerdict n s)

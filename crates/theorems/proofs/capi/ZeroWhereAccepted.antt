@@ -30,7 +30,7 @@ use Rattle.capi.specs.PointAnswers.{pointFields, noPoint, pointNumbers, decoded
 use Rattle.capi.specs.HeaderAnswers.{headerFields, noHeader, headerNumbers}
 use Rattle.capi.specs.Interface.{lasCheckFile, lasCheckSheet, lasReadHeader, lasVlrStep, lasPointAt, lasDecode, lasEncode, lasClassKept, lasRecordKept, lasGeokeyFind, lasRelease}
 use Rattle.theorems.specs.ZeroWhereAccepted.{isPassing, hasFields, hasRecord, hasPoint, isDecoded, isFound, isReleased, isZero, ZeroWhereAccepted}
-use Rattle.theorems.proofs.capi.NumberLaws.{Numbered, AboveZero, first-numbered, then-numbered, file-numbered, sheet-numbered}
+use Rattle.theorems.proofs.capi.NumberLaws.{Numbered, Without, first-numbered, then-numbered, file-numbered, sheet-numbered}
 
 -- ---- an answer that a verdict decides
 
@@ -85,11 +85,11 @@ either-of true g h eg eh = eg
 either-of false g h eg eh = eh
 
 double-in : (entry parameters : Bytes) → NumberedKey (doubleIn entry parameters)
-unfolding doubleIn NumberedKey geokeyNumbers isFound isZero AboveZero
+unfolding doubleIn NumberedKey geokeyNumbers isFound isZero Without
 double-in entry parameters = answer-if _ _ (first-numbered (doubleChecks entry parameters) (refl, tt)) refl
 
 text-in : (entry : Bytes) (at : ℕ) (parameters : Bytes) → NumberedKey (textIn entry at parameters)
-unfolding textIn NumberedKey geokeyNumbers isFound isZero AboveZero
+unfolding textIn NumberedKey geokeyNumbers isFound isZero Without
 text-in entry at parameters = answer-if _ _ (first-numbered (textChecks entry parameters) (refl, tt)) refl
 
 in-parameters : (s entry : Bytes) (at : Option ℕ) → NumberedKey (inParameters s entry at)
@@ -99,14 +99,14 @@ in-parameters s entry (some at) =
     either-of (eqb (locationOf entry) 34736) _ _ (double-in entry (payloadAt s at)) (text-in entry at (payloadAt s at))
 
 from-entry : (s : Bytes) (entry : Option Bytes) → NumberedKey (fromEntry s entry)
-unfolding fromEntry NumberedKey geokeyNumbers isFound isZero AboveZero
+unfolding fromEntry NumberedKey geokeyNumbers isFound isZero Without
 from-entry s none = refl
 from-entry s (some entry) =
     answer-if _ _ (first-numbered (entryChecks entry) (refl, (refl, tt)))
     (either-of (eqb (locationOf entry) 0) _ _ refl (in-parameters s entry (projectionPlace s (locationOf entry))))
 
 from-directory : (s : Bytes) (k : ℕ) (at : Option ℕ) → NumberedKey (fromDirectory s k at)
-unfolding fromDirectory NumberedKey geokeyNumbers isFound isZero AboveZero
+unfolding fromDirectory NumberedKey geokeyNumbers isFound isZero Without
 from-directory s k none = refl
 from-directory s k (some at) =
     answer-if _ _ (first-numbered (directoryChecks (payloadAt s at)) (refl, tt)) (from-entry s (entryOf (payloadAt s at) k))
@@ -143,7 +143,7 @@ release-numbered sheet s out =
 
 pub zero-where-accepted : ZeroWhereAccepted
 unfolding lasCheckFile lasCheckSheet lasReadHeader lasVlrStep lasPointAt lasDecode lasEncode lasClassKept lasRecordKept lasGeokeyFind lasRelease
-    header.headerRead stepOf pointAtOf points.decoded encoding.encoded points.decodeChecks encoding.encodeChecks Numbered NumberedKey NumberedOutcome AboveZero isZero
+    header.headerRead stepOf pointAtOf points.decoded encoding.encoded points.decodeChecks encoding.encodeChecks Numbered NumberedKey NumberedOutcome Without isZero
 zero-where-accepted =
     record {
       check-file = file-numbered;

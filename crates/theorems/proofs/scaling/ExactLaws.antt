@@ -16,7 +16,8 @@ use Rattle.theorems.proofs.scaling.RoundLaws.{round-kept, sum-rounded, 
 
 -- ---- `Times` by sign and size
 
-times-of : (k : ℕ) (x : Float) (s : Bool) (a : ℕ) (z : ℤ) → HasValue x s a (2 ^ k) → SameValue s a (negative z) (natAbs z)
+times-of : (k : ℕ) (x : Float) (s : Bool) (a : ℕ) (z : ℤ) → HasValue x s a (2 ^ k)
+    → SameValue s a (negative z) (natAbs z)
     → Times k x z
 unfolding Times
 times-of k (fin t m e) s a z v h =
