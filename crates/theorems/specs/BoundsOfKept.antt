@@ -42,13 +42,16 @@ Between low x high = T (le low x) × T (le x high)
 -- a bound is the coordinate of some point
 pub record OfPoint (f : Bytes) (axis : Axis) (points : List Bytes) (bound : Float) : Type 0 where
   pub point : Bytes
+  -- it is one of them
   pub among : List·Memᴰ point points
+  -- and the bound is its coordinate
   pub is : bound ≡ coordinateAt f axis point
 
 -- a file `out` bounds points of the file f
 pub record Bounded (f out : Bytes) (points : List Bytes) (axis : Axis) : Type 0 where
-  -- each bound is the coordinate of some point
+  -- the larger bound is the coordinate of some point
   pub max : OfPoint f axis points (maxOf out axis)
+  -- so is the smaller
   pub min : OfPoint f axis points (minOf out axis)
   -- and every point's coordinate is from the one bound to the other
   pub between : All (λ p. Between (minOf out axis) (coordinateAt f axis p) (maxOf out axis)) points

@@ -71,11 +71,13 @@ pub record FiniteInOrder (scale offset : Float) : Type 0 where
 
 -- the exact case
 pub record ExactCase (k : ℕ) (scale offset : Float) (whole : ℤ) : Type 0 where
-  -- the scale is 2 ^ -k, k from 0 to 10
+  -- k is from 0 to 10
   pub few : k ≤ 10
+  -- the scale is 2 ^ -k
   pub power : Times k scale (pos 1)
-  -- and the offset is a whole number of size at most 2 ^ 40
+  -- the offset is a whole number
   pub is-whole : Times 0 offset whole
+  -- of size at most 2 ^ 40
   pub small : natAbs whole ≤ 2 ^ 40
 
 -- 2 ^ k times the coordinate is the whole number stored + whole · 2 ^ k

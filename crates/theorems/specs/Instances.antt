@@ -103,8 +103,9 @@ pub record ZerosBesideMet : Type 0 where
   pub point-at : lasPointAt file9 2 ≡ noPoint 11
   -- 19 bytes are no point
   pub decode : lasDecode 0 20 (zeros 19) ≡ noPoint 12
-  -- samples P5 and P6's sheets do not pass
+  -- sample P5's sheet does not pass
   pub class-kept : lasClassKept sheet5 2 ≡ record { number = 22; kept = 0 }
+  -- nor does sample P6's
   pub record-kept : lasRecordKept sheet6 [] 0 ≡ record { number = 20; kept = 0 }
   -- sample P9's file has no directory
   pub geokey-find : lasGeokeyFind file9 1024 ≡ record { number = 40; location = 0; value = 0; length = 0 }
@@ -114,19 +115,29 @@ pub record ZerosBesideMet : Type 0 where
 pub record EachNumberMet : Type 0 where
   -- the program's table gives 50 for a file of 40,000 bytes
   pub table : Given ((51, not-so true) ∷ (50, 32768 below 40000) ∷ []) 50
-  -- a number of each function
+  -- 226 bytes give 1
   pub check-file : Given (fileChecks (zeros 226)) 1
+  -- sample P4's sheet gives 23
   pub check-sheet : Given (sheetChecks sheet4) 23
+  -- 227 zero bytes give 2
   pub read-header : Given (fileChecks (zeros 227)) 2
+  -- a second step in sample P9's file gives 18
   pub vlr-step : Given (fileChecks file9 ++ stepChecks file9 1 291) 18
+  -- its third point gives 11
   pub point-at : Given (fileChecks file9 ++ pointChecks file9 2) 11
+  -- 19 bytes to decode give 12
   pub decode : Given (decodeChecks 0 20 (zeros 19)) 12
+  -- 19 bytes to encode to give 12
   pub encode-number : Given (encodeChecks 0 20 (givenPoint numbers7) (used 19)) 12
+  -- sample P5's sheet gives 22
   pub class-kept : Given (sheetChecks sheet5) 22
+  -- sample P6's sheet gives 20
   pub record-kept : Given (sheetChecks sheet6) 20
+  -- a lookup in sample P9's file gives 40
   pub geokey-find : Given (fileChecks file9 ++ lookupChecks file9 1024) 40
+  -- its release into 254 bytes gives 30
   pub release-number : Given (releaseChecks sheet3 file9 (used 254)) 30
-  -- and 0
+  -- into 255 bytes every check is clear
   pub accepts : AllClear (releaseChecks sheet3 file9 (used 255))
 
 -- ---- demand 3
@@ -149,9 +160,11 @@ pub record ShortMet : Type 0 where
       × (release sheet3 other9 (zeros 254) .1 ≡ zeros 254)
 
 pub record AgainMet : Type 0 where
-  -- again, into a shorter output, a longer one, and one of the same length
+  -- again, into a shorter output
   pub again-shorter : Again9 (used 260)
+  -- into a longer one
   pub again-longer : Again9 (used 400)
+  -- into one of the same length
   pub again-same : OfOutput9 (λ file. release sheet3 file (filled 9) ≡ release sheet3 file9 (filled 7))
 
 -- ---- a released file is known

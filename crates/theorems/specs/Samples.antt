@@ -137,5 +137,6 @@ samples =
     ∷ (whole (part 179 48 (release [] file9 (used 227) .1)), whole (zeros 48))
     ∷ []
 
+-- each sample gives what the specification says
 abbrev pub SamplesHold : Type 0
 SamplesHold = All (λ s. s .0 ≡ s .1) samples

@@ -32,7 +32,9 @@ pub record SheetLines : Type 0 where
 -- a line of which P holds
 pub record SomeLine (ls : List Bytes) (P : Bytes → Type 0) : Type 0 where
   pub line : Bytes
+  -- it is one of them
   pub among : List·Memᴰ line ls
+  -- and P holds of it
   pub so : P line
 
 pub record KeptByLines : Type 0 where

@@ -71,9 +71,9 @@ unfoldable pub isZero : ℕ → Bool
 isZero n = eqb n 0
 
 pub record ZeroWhereAccepted : Type 0 where
-  -- a file isPassing
+  -- a file passes
   pub check-file : (file : Bytes) → isZero (lasCheckFile file) ≡ isPassing (fileVerdict file)
-  -- a sheet isPassing
+  -- a sheet passes
   pub check-sheet : (sheet : Bytes) → isZero (lasCheckSheet sheet) ≡ isPassing (sheetVerdict sheet)
   -- a header is read
   pub read-header : (file : Bytes) → isZero (lasReadHeader file .number) ≡ hasFields (headerRead file)
@@ -88,10 +88,10 @@ pub record ZeroWhereAccepted : Type 0 where
   -- a point is encoded
   pub encode : (format len : ℕ) (p : «las_point») (room : Bytes)
       → isZero (lasEncode format len p room .0) ≡ isPassing (encoded format len (givenPoint p) room .0)
-  -- a sheet that is asked about a class isPassing
+  -- a sheet that is asked about a class passes
   pub class-kept : (sheet : Bytes) (class : ℕ)
       → isZero (lasClassKept sheet class .number) ≡ isPassing (sheetVerdict sheet)
-  -- a sheet that is asked about a record isPassing
+  -- a sheet that is asked about a record passes
   pub record-kept : (sheet user : Bytes) (id : ℕ)
       → isZero (lasRecordKept sheet user id .number) ≡ isPassing (sheetVerdict sheet)
   -- a key is found

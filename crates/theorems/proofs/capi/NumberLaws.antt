@@ -1,4 +1,4 @@
--- No check of a table has the number 0, so a verdict's number is 0 exactly where it isPassing.
+-- No check of a table has the number 0, so a verdict's number is 0 exactly where it passes.
 -- Assumes nothing.
 use mathlib.Core.Path.{_≡_, refl}
 use Prim.Native.Nat.{ℕ, zero, suc}
@@ -13,7 +13,7 @@ use Rattle.lasfile.specs.FileChecks.{fileVerdict}
 use Rattle.sheet.specs.Sheet.{lineChecks, linesVerdict, sheetVerdict, afterLine}
 use Rattle.theorems.specs.ZeroWhereAccepted.{isPassing, isZero}
 
--- a verdict whose number is 0 exactly where it isPassing
+-- a verdict whose number is 0 exactly where it passes
 unfoldable pub Numbered : Verdict → Type 0
 Numbered v = isZero (numberOf v) ≡ isPassing v
 
