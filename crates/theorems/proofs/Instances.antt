@@ -47,7 +47,7 @@ use Rattle.theorems.specs.Demand3.{Same}
 use Rattle.theorems.specs.Recognised.{OutputUnder, GivesItself}
 use Rattle.theorems.specs.Demand1.{NothingChanged, refusal, ZerosBeside, EachNumber}
 use Rattle.theorems.specs.Samples.{sheet3, sheet4, sheet5, sheet6, point7, used, half, ten, file9}
-use Rattle.theorems.specs.Instances.{other9, filled, output9, fields7, numbers7, oneRecord, sheet64, NothingChangedMet, ZerosBesideMet, EachNumberMet, ExactlyMet, ShortMet, AgainMet, RecognisedMet, CompleteMet, NeverLongerMet, BoundsOfKeptMet, SheetsMet, FilesMet, VisitsMet, RoundTripsMet, CoordinatesMet, OwnBitsMet}
+use Rattle.theorems.specs.Instances.{other9, filled, output9, fields7, numbers7, oneRecord, sheetA7, sheet64, NothingChangedMet, ZerosBesideMet, EachNumberMet, ExactlyMet, ShortMet, AgainMet, RecognisedMet, CompleteMet, NeverLongerMet, BoundsOfKeptMet, SheetsMet, FilesMet, VisitsMet, RoundTripsMet, CoordinatesMet, OwnBitsMet}
 use Rattle.theorems.proofs.Samples.{computed}
 use Rattle.theorems.proofs.Demand1.{demand1}
 use Rattle.theorems.proofs.Demand3.{demand3}
@@ -282,6 +282,7 @@ sheets-met =
     record {
       whole = lines-are .whole sheet3 sheet-passes9;
       class = kept-by-lines .class sheet3 2 .0 (unfold computed in refl);
+      entry = kept-by-lines .entry sheetA7 (0x41 ∷ []) 7 .0 (unfold computed in refl);
       by-lines = kept-by-lines .by-lines sheet64 (sheet64 ++ 0x4B ∷ []) (unfold computed in refl) .0;
     }
 

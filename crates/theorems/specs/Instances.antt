@@ -25,7 +25,7 @@ use Rattle.lasfile.specs.Records.{Record, walk, walkEnd, recordsBytes}
 use Rattle.reader.specs.Steps.{stepChecks, recordPlaces, stepOf, visited}
 use Rattle.reader.specs.declared.cursor.Step.the-variants.{Refused}
 use Rattle.reader.specs.OnePoint.{pointChecks}
-use Rattle.sheet.specs.Sheet.{kind, lowest, highest, lines}
+use Rattle.sheet.specs.Sheet.{kind, lowest, highest, userID, recordID, lines}
 use Rattle.sheet.specs.Keeping.{keepsClass}
 use Rattle.publicpart.specs.Public.{publicOf}
 use Rattle.publicpart.specs.Release.{release}
@@ -77,6 +77,10 @@ numbers7 = lasDecode 0 20 (point7 2)
 
 abbrev pub oneRecord : Record
 oneRecord = record { user = 0x41 ∷ []; id = 7; description = []; payload = 0x01 ∷ 0x02 ∷ [] }
+
+-- a sheet that keeps the record with user ID "A" and record ID 7
+abbrev pub sheetA7 : Bytes
+sheetA7 = 0x4B ∷ 0x53 ∷ 0x02 ∷ 0x41 ∷ (zeros 15 ++ 0x07 ∷ 0x00 ∷ [])
 
 -- a sheet of 64 lines
 abbrev pub sheet64 : Bytes
@@ -208,6 +212,8 @@ pub record SheetsMet : Type 0 where
   pub whole : join (lines sheet3) ≡ sheet3
   -- some line keeps class 2
   pub class : SomeLine (lines sheet3) (λ l. (kind l ≡ 1) × (lowest l ≤ 2) × (2 ≤ highest l))
+  -- some line keeps the record
+  pub entry : SomeLine (lines sheetA7) (λ l. (kind l ≡ 2) × (userID l ≡ 0x41 ∷ []) × (recordID l ≡ 7))
   -- a 65th line keeps nothing
   pub by-lines : (c : ℕ) → keepsClass sheet64 c ≡ keepsClass (sheet64 ++ 0x4B ∷ []) c
 
