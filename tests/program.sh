@@ -9,14 +9,14 @@ trap 'rm -rf "$scratch"' EXIT
 passed=0
 failed=0
 
-# expect NAME LINE: the program, run in the folder at hand, prints exactly that line.
+# expect NAME LINE: the program, run in the folder at hand, prints that line and its newline, byte by byte, and no more.
 expect() {
-    local line
-    line=$(cd "$folder" && "$program")
-    if [ "$line" = "$2" ]; then
+    (cd "$folder" && "$program") >"$scratch/said"
+    if printf '%s\n' "$2" | cmp -s - "$scratch/said"; then
         passed=$((passed + 1))
     else
-        echo "$1: expected '$2', got '$line'"
+        echo "$1: expected '$2' and a newline, got:"
+        od -An -c "$scratch/said"
         failed=$((failed + 1))
     fi
 }
