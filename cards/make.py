@@ -1,5 +1,5 @@
 #!/usr/bin/env python3
-"""Writes the sample cards: cards/NAME/in.las, sheet.bin, and what the program is to do with them: expected.las and line.
+"""Writes the sample cards: cards/NAME/in.las, sheet.bin, and what the program makes of them: expected.las and line.
 
 Plain code written from document 01. It shares nothing with the crates, so expected.las is a second opinion on what
 they release. Run it anywhere: python3 cards/make.py
@@ -92,7 +92,7 @@ def kept_points(f, classes):
 
 
 def bounds_of(f, points):
-    """max X, min X, max Y, min Y, max Z, min Z. Python's floats round each product and each sum once, to nearest even."""
+    """max X, min X, max Y, min Y, max Z, min Z. Python's floats round each product and sum once, to nearest even."""
     scales, offsets = struct.unpack_from("<3d", f, 131), struct.unpack_from("<3d", f, 155)
     if not points:
         return [0.0] * 6
@@ -127,9 +127,9 @@ def record_line(user, record_id, junk=b""):
 
 
 def yard():
-    """Format 1, twelve points of classes 2, 5 and 6, all X below zero, returns 0 to 7. Three VLRs; the sheet keeps one of them, and
-    classes 2 to 2 and 6 to 6. Text tails hold junk behind the zero. 13 extra header bytes, a gap before the points, trailing bytes
-    behind them. The stated counts and bounds lie."""
+    """Format 1, twelve points of classes 2, 5 and 6, all X below zero, returns 0 to 7. Three VLRs; the sheet keeps one
+    of them, and classes 2 to 2 and 6 to 6. Text tails hold junk behind the zero. 13 extra header bytes, a gap before the
+    points, trailing bytes behind them. The stated counts and bounds lie."""
     junk = b"client 4711"
     vlrs = [vlr(b"yardcrew", 1, b"shift notes", b"gate code 1234", junk),
             vlr(b"yard", 7, b"site outline", bytes(range(24)), b"J"),
@@ -145,9 +145,10 @@ def yard():
 
 
 def survey():
-    """Format 3 with 6 extra bytes in each record. Five VLRs; the sheet keeps the GeoKey directory (LASF_Projection, 34735) and its
-    doubles (34736), not its text (34737), and names the directory twice. It keeps classes 2 to 5. One point of class 5 has stored X
-    -2147483648, one of class 4 the largest stored Z. Points of class 1, 6 and 255 are left out."""
+    """Format 3 with 6 extra bytes in each record. Five VLRs; the sheet keeps the GeoKey directory (LASF_Projection,
+    34735) and its doubles (34736), not its text (34737), and names the directory twice. It keeps classes 2 to 5. One
+    point of class 5 has stored X -2147483648, one of class 4 the largest stored Z. Points of class 1, 6 and 255 are left
+    out."""
     keys = struct.pack("<4H", 1, 1, 0, 3) + struct.pack("<12H", 1024, 0, 1, 1, 2057, 34736, 1, 0, 3072, 0, 1, 32633)
     vlrs = [vlr(b"LASF_Projection", 34737, b"text parameters", b"WGS 84 / UTM 33N|", b"z"),
             vlr(b"LASF_Projection", 34735, b"GeoKey directory", keys, b"draft 3", 0),

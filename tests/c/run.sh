@@ -1,5 +1,6 @@
 #!/usr/bin/env bash
-# Tries the header and the static library as a C caller would: the header as C and as C++, and two programs over the library.
+# Tries the header and the static library as a C caller would: the header as C and as C++, and two programs over the
+# library.
 # Usage: tests/c/run.sh LIBDIR, the folder with libcapi.a; its last line is 'N passed, M failed'.
 set -u
 library=${1:?usage: tests/c/run.sh LIBDIR}/libcapi.a
