@@ -128,8 +128,8 @@ def record_line(user, record_id, junk=b""):
 
 def yard():
     """Format 1, twelve points of classes 2, 5 and 6, all X below zero, returns 0 to 7. Three VLRs; the sheet keeps one
-    of them, and classes 2 to 2 and 6 to 6. Text tails hold junk behind the zero. 13 extra header bytes, a gap before the
-    points, trailing bytes behind them. The stated counts and bounds lie."""
+    of them, and classes 2 to 2 and 6 to 6. Text tails hold junk behind the zero. 13 extra header bytes, a gap before
+    the points, trailing bytes behind them. The stated counts and bounds lie."""
     junk = b"client 4711"
     vlrs = [vlr(b"yardcrew", 1, b"shift notes", b"gate code 1234", junk),
             vlr(b"yard", 7, b"site outline", bytes(range(24)), b"J"),
@@ -147,8 +147,8 @@ def yard():
 def survey():
     """Format 3 with 6 extra bytes in each record. Five VLRs; the sheet keeps the GeoKey directory (LASF_Projection,
     34735) and its doubles (34736), not its text (34737), and names the directory twice. It keeps classes 2 to 5. One
-    point of class 5 has stored X -2147483648, one of class 4 the largest stored Z. Points of class 1, 6 and 255 are left
-    out."""
+    point of class 5 has stored X -2147483648, one of class 4 the largest stored Z. Points of class 1, 6 and 255 are
+    left out."""
     keys = struct.pack("<4H", 1, 1, 0, 3) + struct.pack("<12H", 1024, 0, 1, 1, 2057, 34736, 1, 0, 3072, 0, 1, 32633)
     vlrs = [vlr(b"LASF_Projection", 34737, b"text parameters", b"WGS 84 / UTM 33N|", b"z"),
             vlr(b"LASF_Projection", 34735, b"GeoKey directory", keys, b"draft 3", 0),
