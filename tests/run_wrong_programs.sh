@@ -2,7 +2,7 @@
 # Runs the most important wrong programs beside the true code, each on an input where it differs, and asks that each
 # prints what it should: the true line, and another. Usage: tests/run_wrong_programs.sh [CASE..]
 # Each case is a small program over the interface, tests/wrong/CASE.rt.in. Its first lines name a wrong program of the
-# must-fail edits, '// NAME: what is wrong', with the last part of its function's path, and what the program prints over
+# must-fail edits, '// NAME: what is wrong', with the end of its function's path, and what the program prints over
 # the true code and over the wrong one, its lines joined by blanks. `rt try` runs it on the interpreter and compiled
 # three ways, with no proof: the wrong code has none.
 # It is no part of the gate. It takes some two minutes; its last line is 'N passed, M failed', a case each.

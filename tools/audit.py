@@ -16,6 +16,7 @@ All else:
 - every folder of crates/ stands in crates.txt;
 - docs/PROMISES.md lists public functions only, and each once;
 - every wrong program says where it differs: '# NAME: what is wrong; differs where INPUT';
+- every wrong program of a function changes that function, or a constant that it reads;
 - no wrong program changes a constant that the function of another one in its edit reads: that one would be refused
   for a change that is not its own;
 - comments, contracts and the prose of *.md end by column 120 (not `use` lines, code, tables, proof terms or edits);
@@ -35,7 +36,6 @@ LEFT_OUT = {"target", ".git"}
 COMMENTS = {".rt": "//", ".rs": "//", ".c": "//", ".h": "//", ".antt": "--", ".sh": "#", ".py": "#", "": "#"}
 HOLE = re.compile(r"(^|[\s(={;,])\?([\s);,}]|$)")
 AXIOM = re.compile(r"(?<![\w.·'-])(lem|ac)(?![\w·'-])")
-CONSTANT = re.compile(r"\bconst\s+(\w+)\s*:")
 
 
 def lines_of(path):
@@ -123,11 +123,28 @@ def about_inputs(programs):
     return [f"{p.crate}/{p.label}: {p.name}: {p.what}: does not say where it differs" for p in unsaid]
 
 
-def about_constants(programs, everything):
+def about_own(root, programs, everything):
+    """Else its own proof would be refused for another's change, or for none."""
+    named = {(f.crate, f.path()): f for f in everything}
+    for program in programs:
+        if program.is_law():
+            continue
+        function = named.get((program.crate, program.name))
+        if function is None:
+            yield f"{program.crate}/{program.label}: {program.name} is no function"
+            continue
+        read = any(re.search(rf"\b{constant}\b", function.body) for constant in program.constants(root))
+        for file, old, _ in program.changes:
+            in_source = root / "crates" / program.crate / file == function.source
+            if not read and not (in_source and without_comment(old, "//").strip() in function.body):
+                yield f"{program.crate}/{program.label}: {program.name}: {program.what}: changes something else"
+
+
+def about_constants(root, programs, everything):
     """An edit is refused as a whole, so what one program changes for all functions must not meet another's function."""
     bodies = {(f.crate, f.path()): f.body for f in everything}
     for one in programs:
-        for constant in {name for _, old, _ in one.changes for name in CONSTANT.findall(old)}:
+        for constant in sorted(one.constants(root)):
             for other in programs:
                 together = (one.crate, one.label) == (other.crate, other.label) and one is not other
                 if together and re.search(rf"\b{constant}\b", bodies.get((other.crate, other.name), "")):
@@ -217,7 +234,8 @@ def main():
         ("crates that crates.txt does not list", about_crates(root, crates)),
         ("promises of what is no public function", about_promises(root, public)),
         ("wrong programs that do not say where they differ", about_inputs(programs)),
-        ("constants that two wrong programs of one edit meet in", about_constants(programs, everything)),
+        ("wrong programs that change something else than their function", about_own(root, programs, everything)),
+        ("constants that two wrong programs of one edit meet in", about_constants(root, programs, everything)),
         (f"comments, contracts and prose beyond column {WIDTH}", about_width(root, everything)),
         ("holes and axioms in proofs", about_proofs(root)),
     ]

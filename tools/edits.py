@@ -8,7 +8,7 @@ From the repository's root:
 An edit, crates/CRATE/must-fail/LABEL.edit, holds lines 'file: F', then for each wrong program
     # NAME: what is wrong; differs where INPUT
 and its pairs of lines 'old: TEXT' and 'new: TEXT'. NAME is a function's path in its crate, or FILE.LAW for a statement.
-To apply one, NAME's last part is enough: a function that moves to another module or crate is still found.
+To apply one, the end of NAME is enough: a function that moves to another module or crate is still found.
 """
 import dataclasses
 import pathlib
@@ -17,6 +17,7 @@ import sys
 
 NAMED = re.compile(r"# ([A-Za-z0-9_:.-]+): (.+)$")
 DIFFERS = "; differs where "
+CONSTANT = re.compile(r"^\s*(?:pub(?:\(crate\))?\s+)?const\s+(\w+)\s*:", re.M)
 
 
 @dataclasses.dataclass
@@ -39,6 +40,17 @@ class WrongProgram:
         if self.is_law():
             return "proofs/" + self.name.rpartition(".")[0].replace("::", "/") + ".antt"
         return "proofs/" + self.name.replace("::", "/") + "/Proof.antt"
+
+    def constants(self, root):
+        """The constants whose lines it changes. They hold for every function that reads them, not for its own alone."""
+        found = set()
+        for file, old, _ in self.changes:
+            text = (pathlib.Path(root) / "crates" / self.crate / file).read_text(encoding="utf-8")
+            if old in text:
+                first = text.rfind("\n", 0, text.find(old)) + 1
+                last = text.find("\n", text.find(old) + len(old) - 1)
+                found.update(CONSTANT.findall(text[first:last]))
+        return found
 
     def function(self):
         """The function's own name, without its path."""
@@ -81,7 +93,7 @@ def changed(text, program, file):
 
 
 def apply(name, what, root):
-    found = [p for p in wrong_programs(root) if p.function() == name.rpartition("::")[2] and p.what == what]
+    found = [p for p in wrong_programs(root) if f"::{p.name}".endswith(f"::{name}") and p.what == what]
     if len(found) != 1:
         raise SystemExit(f"{name}: {what}: {len(found)} wrong programs have that name")
     program = found[0]

@@ -24,7 +24,6 @@ import edits
 import sources
 
 PACKED = re.compile(r"wrong_(\d+)$")
-CONSTANT = re.compile(r"\bconst\s+(\w+)\s*:")
 
 
 class Crate:
@@ -69,8 +68,8 @@ class Crate:
             return True
         if one.is_law() and one.proof() != other.proof() and one.proof() in rests:
             return True
-        constants = {name for _, old, _ in one.changes for name in CONSTANT.findall(old)}
-        return any(re.search(rf"\b{name}\b", self.bodies.get(other.name, "")) for name in constants)
+        body = self.bodies.get(other.name, "")
+        return any(re.search(rf"\b{constant}\b", body) for constant in one.constants("."))
 
     def applies(self, programs):
         """Whether all texts of some wrong programs can be replaced, one after the other."""
@@ -135,7 +134,7 @@ def text_of(crate, group):
             if file != last:
                 lines.append(f"file: {file}")
                 last = file
-            lines += [f"old: {old}", f"new: {new}".rstrip(" ") if not new else f"new: {new}"]
+            lines += [f"old: {old}", f"new: {new}" if new else "new:"]
     return "\n".join(lines) + "\n"
 
 
