@@ -16,7 +16,10 @@ target=${1:?usage: tests/wrong_programs.sh TARGET}
 passed=0
 failed=0
 
-# The kinds of errors that count. A term stands between backquotes.
+# The kinds of errors that count, by their first words, behind the name of the declaration, and by what they go on to
+# say. A term stands between backquotes.
+words='as printed, the two |computed as far as they go, the two |`omega`: the goal |expected type '
+words="error: \`[^\`]*\`: ($words|give a proof of that as the last argument, \`simp )"
 term='`([^`]*)`'
 side='\((expected|found|left)\)'
 things='the two (types|values|sides)'
@@ -42,7 +45,9 @@ two_terms() {
 # kind_of MESSAGE: what kind of error it is, in a few words; nothing for one that does not count.
 kind_of() {
     local wanted given
-    if [[ $1 =~ $differ_computed ]]; then
+    if ! [[ $1 =~ $words ]]; then
+        return
+    elif [[ $1 =~ $differ_computed ]]; then
         two_terms "${BASH_REMATCH[3]}" "${BASH_REMATCH[6]}" && echo "two terms differ"
     elif [[ $1 =~ $are_computed ]]; then
         two_terms "${BASH_REMATCH[2]}" "${BASH_REMATCH[4]}" && echo "two terms differ"
