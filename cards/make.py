@@ -1,8 +1,8 @@
 #!/usr/bin/env python3
 """Writes the sample cards: cards/NAME/in.las, sheet.bin, and what the program makes of them: expected.las and line.
 
-Plain code written from document 01. It shares nothing with the crates, so expected.las is a second opinion on what
-they release. Run it anywhere: python3 cards/make.py
+Plain code written from the requirements (docs/SPECIFICATION.md). It shares nothing with the crates, so expected.las is
+a second opinion on what they release. Run it anywhere: python3 cards/make.py
 """
 import os
 import struct
@@ -48,7 +48,7 @@ def las(fmt, record_length, scales, offsets, vlrs, points, header_extra, gap, tr
     return head + header_extra + b"".join(vlrs) + gap + b"".join(points) + trailing
 
 
-# ---- the release, from document 01 (only for files and sheets that pass)
+# ---- the release, from the specification (only for files and sheets that pass)
 
 def cut(field):
     return field.split(b"\0")[0]

@@ -7,7 +7,7 @@ use crate::answers::{GeoKey, Header, Kept, Point, Record, Released};
 use crate::lent::Lent;
 use crate::{ours, plain};
 
-/// The functions of the interface that answer with document 01's numbers.
+/// The functions of the interface that answer with the specification's numbers.
 #[derive(Debug, Clone, Copy, PartialEq, Eq, PartialOrd, Ord)]
 pub enum Function {
     CheckFile,

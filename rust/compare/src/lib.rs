@@ -3,7 +3,7 @@
 //!
 //! * [`ours`] calls the library, [`plain`] calls `las_plain`; both give [`answers`].
 //! * [`compared::Compared`] calls both, demands equal answers and equal bytes,
-//!   and remembers which of document 01's numbers were reached.
+//!   and remembers which of the specification's numbers were reached.
 //! * [`spec`] builds valid files and sheets from a description; [`damage`]
 //!   changes single fields of them.
 //! * [`lent::Lent`] lends bytes from the middle of a guarded buffer.

@@ -1,4 +1,4 @@
-//! Document 01's samples, on the library and on `las_plain`.
+//! The specification's samples, on the library and on `las_plain`.
 
 use compare::answers::{Point, Released};
 use compare::compared::Compared;

@@ -17,7 +17,7 @@ pub struct Error {
 }
 
 impl Error {
-    /// Document 01's number for it.
+    /// The specification's number for it (docs/SPECIFICATION.md).
     pub fn number(&self) -> u64 {
         self.number
     }
@@ -67,7 +67,7 @@ pub(crate) fn passes_or_needs(number: u64, length: u64) -> Result<(), Error> {
     }
 }
 
-/// What a number says, for every number of document 01.
+/// What a number says, for every number of the specification.
 fn words(number: u64) -> Option<&'static str> {
     Some(match number {
         1 => "fewer than 227 bytes",
@@ -114,7 +114,7 @@ mod tests {
     use super::*;
     use std::collections::HashSet;
 
-    /// The numbers of document 01.
+    /// The numbers of the specification.
     const NUMBERS: [u64; 29] = [
         1, 2, 3, 4, 5, 6, 7, 8, 9, 10, 11, 12, 13, 18, 20, 21, 22, 23, 24, 30, 40, 41, 42, 43, 44,
         45, 46, 50, 51,

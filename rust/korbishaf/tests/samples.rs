@@ -1,4 +1,4 @@
-//! The bench samples of document 01 and the sample cards, through the wrappers.
+//! The samples of the specification and the sample cards, through the wrappers.
 
 use korbishaf::{GeoKeyValue, Guid, PlacedPoint, Point, Record, Released};
 use std::fs;

@@ -16,7 +16,7 @@ pub struct LasFile<'a> {
 }
 
 impl<'a> LasFile<'a> {
-    /// Makes the file checks in document 01's order.
+    /// Makes the file checks in the specification's order.
     pub fn open(bytes: &'a [u8]) -> Result<Self, Refusal> {
         let header = Header::read(bytes)?;
         let file = Self { bytes, header };

@@ -1,15 +1,15 @@
 //! An independent reader and releaser of LAS 1.2.
 //!
-//! Written from the LAS 1.2 specification, the GeoKey pages and document 01
-//! alone. It shares nothing with the proved crates, so that where both agree,
-//! their definitions are LAS as the world reads it.
+//! Written from the LAS 1.2 specification, the GeoKey pages and the requirements
+//! (docs/SPECIFICATION.md) alone. It shares nothing with the proved crates, so
+//! that where both agree, their definitions are LAS as the world reads it.
 //!
 //! * [`LasFile`] is a file that passes the file checks; [`check_file`] only asks.
 //! * [`Sheet`] is a keep sheet that passes; [`check_sheet`] only asks.
 //! * [`release()`] writes what a sheet leaves of a file.
 //! * [`Point`] is one point's fields, with [`decode`] and [`encode`].
 //!
-//! A [`Refusal`] says why something was not done and has document 01's number.
+//! A [`Refusal`] says why something was not done and has the specification's number.
 
 mod bytes;
 mod file;

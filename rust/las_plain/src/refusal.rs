@@ -3,7 +3,7 @@
 use std::error::Error;
 use std::fmt;
 
-/// A refusal, with document 01's number for it.
+/// A refusal, with the specification's number for it.
 #[derive(Debug, Clone, Copy, PartialEq, Eq)]
 pub enum Refusal {
     /// The file has fewer than 227 bytes.
@@ -66,7 +66,7 @@ pub enum Refusal {
 }
 
 impl Refusal {
-    /// Document 01's number.
+    /// The specification's number (docs/SPECIFICATION.md).
     pub fn number(self) -> u64 {
         self.number_and_words().0
     }

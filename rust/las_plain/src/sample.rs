@@ -1,4 +1,4 @@
-//! Document 01's sample file and sheet, for the tests.
+//! The specification's sample file and sheet, for the tests.
 
 use crate::format::PointFormat;
 use crate::header::{Header, ProjectId};
