@@ -1,0 +1,219 @@
+//! What ends beyond column 120: comments, contracts and the prose of papers.
+
+use super::repository::Repository;
+use crate::files::{self, Result};
+use crate::scan;
+use crate::sources::Function;
+use std::fs;
+use std::os::unix::fs::PermissionsExt;
+use std::path::Path;
+
+const WIDTH: usize = 120;
+const LEFT_OUT: [&str; 2] = ["target", ".git"];
+
+/// A line that may be too wide, with its number.
+type Line<'a> = (usize, &'a str);
+
+fn columns(line: &str) -> usize {
+    line.chars().count()
+}
+
+/// How a comment begins, by the file's suffix; scripts without a suffix are of the shell.
+fn mark(suffix: &str) -> Option<&'static str> {
+    match suffix {
+        "rt" | "rs" | "c" | "h" => Some("//"),
+        "antt" => Some("--"),
+        "sh" | "py" | "" => Some("#"),
+        _ => None,
+    }
+}
+
+/// How a block of text begins and ends, in C and Python.
+fn block(suffix: &str) -> Option<(&'static str, &'static str)> {
+    match suffix {
+        "c" | "h" => Some(("/*", "*/")),
+        "py" => Some(("\"\"\"", "\"\"\"")),
+        _ => None,
+    }
+}
+
+/// The lines that are a comment or end in one behind code that is not too wide itself, and those of a block of text.
+fn comments<'a>(text: &'a str, suffix: &str) -> Vec<Line<'a>> {
+    let mark = mark(suffix).unwrap_or("#");
+    let (mut found, mut inside) = (Vec::new(), false);
+    for (number, line) in (1..).zip(text.lines()) {
+        let code = scan::before_comment(line, mark);
+        let behind = block(suffix).and_then(|(begin, _)| line.trim_start().strip_prefix(begin));
+        let begins = behind.filter(|_| !inside);
+        if inside || begins.is_some() || (code != line && columns(code) <= WIDTH) {
+            found.push((number, line));
+        }
+        if let (Some(rest), Some((_, end))) =
+            (if inside { Some(line) } else { begins }, block(suffix))
+        {
+            inside = !rest.contains(end);
+        }
+    }
+    found
+}
+
+/// The lines of a paper that are neither code nor tables.
+fn prose(text: &str) -> Vec<Line<'_>> {
+    let (mut found, mut fenced) = (Vec::new(), false);
+    for (number, line) in (1..).zip(text.lines()) {
+        if line.trim_start().starts_with("```") {
+            fenced = !fenced;
+        } else if !fenced && !line.trim_start().starts_with('|') {
+            found.push((number, line));
+        }
+    }
+    found
+}
+
+/// Whether a file's owner may run it.
+fn runs(path: &Path) -> bool {
+    fs::metadata(path).is_ok_and(|about| about.permissions().mode() & 0o100 != 0)
+}
+
+/// The wide lines of a file.
+fn in_file(root: &Path, path: &Path) -> Result<Vec<String>> {
+    let suffix = files::suffix(path);
+    if suffix != "md" && (mark(suffix).is_none() || suffix.is_empty() && !runs(&root.join(path))) {
+        return Ok(Vec::new());
+    }
+    let text = files::read(root, path)?;
+    let (kind, lines) = if suffix == "md" {
+        ("prose", prose(&text))
+    } else {
+        ("a comment", comments(&text, suffix))
+    };
+    let wide = lines.into_iter().filter(|(_, line)| columns(line) > WIDTH);
+    Ok(wide
+        .map(|(number, line)| {
+            format!(
+                "{}:{number}: {kind} of {} columns",
+                path.display(),
+                columns(line)
+            )
+        })
+        .collect())
+}
+
+/// The wide lines of a function's contract.
+fn in_contract(root: &Path, function: &Function) -> Result<Vec<String>> {
+    let lines = files::lines(root, &function.source)?;
+    let (source, name) = (function.source.display(), &function.name);
+    let mut found = Vec::new();
+    for clause in &function.clauses {
+        for number in clause.first..=clause.last {
+            let width = columns(&lines[number - 1]);
+            if width > WIDTH {
+                found.push(format!(
+                    "{source}:{number}: `{}` of {name} of {width} columns",
+                    clause.kind
+                ));
+            }
+        }
+    }
+    Ok(found)
+}
+
+/// All that is too wide.
+pub fn too_wide(repository: &Repository) -> Result<Vec<String>> {
+    let root = &repository.root;
+    let mut found = Vec::new();
+    for path in files::below(root, Path::new(""), &LEFT_OUT)? {
+        found.extend(in_file(root, &path)?);
+    }
+    for function in repository.functions() {
+        found.extend(in_contract(root, function)?);
+    }
+    Ok(found)
+}
+
+#[cfg(test)]
+mod tests {
+    use super::super::tests::{SOURCE, objections};
+    use super::*;
+
+    fn numbers(lines: Vec<Line>) -> Vec<usize> {
+        lines.into_iter().map(|(number, _)| number).collect()
+    }
+
+    #[test]
+    fn comments_of_each_language() {
+        assert_eq!(
+            numbers(comments(
+                "// a\nlet b = 1; // c\nlet d = \"e://f\";\n",
+                "rs"
+            )),
+            [1, 2]
+        );
+        assert_eq!(numbers(comments("a = b -- c\nd--e\n", "antt")), [1]);
+        assert_eq!(
+            numbers(comments("/* a\nb */\nint c; /* d\n// e\n", "c")),
+            [1, 2, 4]
+        );
+        assert_eq!(numbers(comments("/* a */\nint b;\n", "h")), [1]);
+        assert_eq!(
+            numbers(comments(
+                "\"\"\"a\"\"\"\nb = 1\n    \"\"\"c\n    d\n    \"\"\"\ne = 1  # f\n",
+                "py"
+            )),
+            [1, 3, 4, 5, 6]
+        );
+    }
+
+    #[test]
+    fn prose_is_neither_code_nor_tables() {
+        assert_eq!(numbers(prose("a\n| b |\n```\nc\n```\nd\n")), [1, 6]);
+    }
+
+    #[test]
+    fn wide_comments_and_prose_are_objected_to() {
+        let (good, bad) = ("≡".repeat(118), "≡".repeat(119));
+        for file in ["a.rs", "tests/b.c", "c.sh", "crates/c/specs/D.antt"] {
+            let mark = mark(files::suffix(Path::new(file))).unwrap();
+            let fill = " ".repeat(2 - mark.len());
+            let said = format!("{file}:1: a comment of 121 columns");
+            assert_eq!(objections(&[(file, &format!("{mark}{fill}{bad}"))]), [said]);
+            assert!(objections(&[(file, &format!("{mark}{fill}{good}"))]).is_empty());
+        }
+        let paper = format!("{bad}aa\n| {bad}aa\n{good}aa\n");
+        assert_eq!(
+            objections(&[("docs/A.md", &paper)]),
+            ["docs/A.md:1: prose of 121 columns"]
+        );
+    }
+
+    #[test]
+    fn code_tables_edits_and_built_files_may_be_wide() {
+        let wide = "x".repeat(130);
+        let code = format!("let a = {wide}; // b\n");
+        let files = [
+            ("a.rs", &code),
+            ("target/a.rs", &format!("// {wide}")),
+            ("a.edit", &format!("# {wide}")),
+        ];
+        assert!(objections(&files.map(|(name, text)| (name, text.as_str()))).is_empty());
+    }
+
+    #[test]
+    fn a_script_without_a_suffix_counts_where_it_can_be_run() {
+        let sample = crate::sample::Sample::new(&[("tools/a", &format!("# {}", "x".repeat(119)))]);
+        let path = Path::new("tools/a");
+        assert!(in_file(sample.root(), path).unwrap().is_empty());
+        fs::set_permissions(sample.root().join(path), fs::Permissions::from_mode(0o755)).unwrap();
+        assert_eq!(
+            in_file(sample.root(), path).unwrap(),
+            ["tools/a:1: a comment of 121 columns"]
+        );
+    }
+
+    #[test]
+    fn a_wide_contract_is_objected_to() {
+        let source = SOURCE.replace("next a", &format!("next\n{}", "a".repeat(121)));
+        let wanted = "crates/c/src/lib.rt:4: `ensures` of f of 125 columns";
+        assert_eq!(objections(&[("crates/c/src/lib.rt", &source)]), [wanted]);
+    }
+}

@@ -1,0 +1,197 @@
+//! Packs the wrong programs of each crate into as few must-fail edits as will do.
+//!
+//! A try checks the whole crate, so what counts is the number of tries. Two wrong programs share an edit unless
+//! - they are of one function, or of one law;
+//! - one edits a file of specs/ that the other's proof or contract rests on, file by file through the `use` lines;
+//! - one's law stands in a file of laws that the other's proof rests on;
+//! - one changes a constant that the other's function reads;
+//! - their texts cannot both be replaced.
+//!
+//! A function that calls another is no reason: its proof rests on the callee's contract alone, which neither changes.
+//!
+//! The edits are named wrong_1.edit, wrong_2.edit, ..; those of an earlier run stay as they are where nothing in them
+//! clashes, and only grow. So to add a wrong program, write it into an edit of any name and run this. Labels that the
+//! papers in docs/ cite are set right. tests/wrong_programs.sh asks of each wrong program that its own proof is
+//! refused.
+
+mod clash;
+mod groups;
+mod imports;
+mod papers;
+
+use crate::edits::{self, WrongProgram};
+use crate::files::{self, Result};
+use clash::Clashes;
+use papers::Moved;
+use std::path::Path;
+
+/// The number of a label that an earlier run gave, wrong_NUMBER.
+fn packed_number(label: &str) -> Option<usize> {
+    let digits = label.strip_prefix("wrong_")?;
+    if digits.contains(|c: char| !c.is_ascii_digit()) {
+        None
+    } else {
+        digits.parse().ok()
+    }
+}
+
+/// Packs the named crates, or all, and says what it did.
+pub fn pack(root: &Path, crates: &[&str]) -> Result<Vec<String>> {
+    let all = files::crate_names(root)?;
+    let named: Vec<&str> = if crates.is_empty() {
+        all.iter().map(String::as_str).collect()
+    } else {
+        crates.to_vec()
+    };
+    let (mut said, mut moved) = (Vec::new(), Moved::default());
+    for in_crate in named {
+        if root
+            .join(files::crate_folder(in_crate))
+            .join("must-fail")
+            .is_dir()
+        {
+            said.extend(pack_crate(root, in_crate, &mut moved)?);
+        }
+    }
+    for paper in files::with_suffix(root, Path::new("docs"), "md")? {
+        let text = files::read(root, &paper)?;
+        let right = moved.set_right(&text, |name| root.join(files::crate_folder(name)).is_dir());
+        if right != text {
+            files::write(root, &paper, &right)?;
+        }
+    }
+    Ok(said)
+}
+
+/// Packs one crate, and notes where each wrong program went.
+fn pack_crate(root: &Path, in_crate: &str, moved: &mut Moved) -> Result<Vec<String>> {
+    let programs = edits::programs_of(root, in_crate)?;
+    if let Some(empty) = programs.iter().find(|program| program.changes.is_empty()) {
+        return Err(format!(
+            "{}: {}: {}: changes nothing",
+            empty.edit(),
+            empty.name,
+            empty.what
+        ));
+    }
+    let clashes = Clashes::read(root, in_crate, &programs)?;
+    let alone = (0..programs.len()).filter(|number| !clashes.apply(&[*number]));
+    let stale = alone.map(|number| &programs[number]);
+    let mut said: Vec<String> = stale
+        .map(|p| format!("{}: {}: {}: no longer applies", p.edit(), p.name, p.what))
+        .collect();
+    let groups = groups::grouped(&clashes);
+    let before = edits::edits_of(root, in_crate)?;
+    for edit in &before {
+        files::remove(root, edit)?;
+    }
+    for (number, group) in (1..).zip(&groups) {
+        let label = format!("wrong_{number}");
+        let group: Vec<&WrongProgram> = group.iter().map(|at| &programs[*at]).collect();
+        let path = files::crate_folder(in_crate)
+            .join("must-fail")
+            .join(format!("{label}.edit"));
+        files::write(root, &path, &edits::text_of(in_crate, &group))?;
+        group.iter().for_each(|program| moved.note(program, &label));
+    }
+    let (count, were, are) = (programs.len(), before.len(), groups.len());
+    said.push(format!(
+        "{in_crate}: {count} wrong programs, {were} edits are now {are}"
+    ));
+    Ok(said)
+}
+
+#[cfg(test)]
+mod tests {
+    use super::*;
+    use crate::sample::Sample;
+
+    const EDITS: &str = "crates/c/must-fail";
+
+    fn program(name: &str, what: &str, old: &str) -> String {
+        format!("# {name}: {what}; differs where 0\nold: {old}\nnew: 0\n")
+    }
+
+    fn sample() -> Sample {
+        let of_f = program("f", "one", "a + 1") + &program("g", "two", "b + 2");
+        Sample::new(&[
+            (
+                "crates/c/src/lib.rt",
+                "fn f() { a + 1 }\nfn g() { b + 2 }\nfn h() { c + 3 }\n",
+            ),
+            (
+                &format!("{EDITS}/wrong_1.edit"),
+                &format!("file: src/lib.rt\n{of_f}"),
+            ),
+            (
+                &format!("{EDITS}/more.edit"),
+                &format!("file: src/lib.rt\n{}", program("f", "three", "a + 1")),
+            ),
+            (
+                &format!("{EDITS}/other.edit"),
+                &format!("file: src/lib.rt\n{}", program("h", "four", "c + 3")),
+            ),
+            ("docs/A.md", "| `c::h` | `other` |\n`more` and `wrong_1`\n"),
+        ])
+    }
+
+    #[test]
+    fn packed_edits_only_grow_and_the_papers_follow() {
+        let sample = sample();
+        let said = pack(sample.root(), &[]).unwrap();
+        assert_eq!(said, ["c: 4 wrong programs, 3 edits are now 2"]);
+        let head = "# Wrong programs and statements of c, at most one for each function or law.\nfile: src/lib.rt\n";
+        let first = program("f", "one", "a + 1")
+            + &program("g", "two", "b + 2")
+            + &program("h", "four", "c + 3");
+        assert_eq!(
+            sample.read(&format!("{EDITS}/wrong_1.edit")),
+            format!("{head}{first}")
+        );
+        let second = program("f", "three", "a + 1");
+        assert_eq!(
+            sample.read(&format!("{EDITS}/wrong_2.edit")),
+            format!("{head}{second}")
+        );
+        assert!(!sample.root().join(EDITS).join("more.edit").exists());
+        assert_eq!(
+            sample.read("docs/A.md"),
+            "| `c::h` | `wrong_1` |\n`wrong_2` and `wrong_1`\n"
+        );
+        assert_eq!(
+            pack(sample.root(), &["c"]).unwrap(),
+            ["c: 4 wrong programs, 2 edits are now 2"]
+        );
+        assert_eq!(
+            sample.read(&format!("{EDITS}/wrong_2.edit")),
+            format!("{head}{second}")
+        );
+    }
+
+    #[test]
+    fn one_that_does_not_apply_is_said() {
+        let sample = sample().with(&[(
+            "crates/c/src/lib.rt",
+            "fn f() { a + 1 }\nfn g() { b + 2 }\n",
+        )]);
+        let said = pack(sample.root(), &["c"]).unwrap();
+        assert_eq!(said[0], "c/other: h: four: no longer applies");
+    }
+
+    #[test]
+    fn one_that_changes_nothing_is_an_error_and_nothing_is_written() {
+        let sample =
+            sample().with(&[("crates/c/must-fail/x.edit", "file: src/lib.rt\n# f: five\n")]);
+        assert!(pack(sample.root(), &["c"]).is_err_and(|error| error.ends_with("changes nothing")));
+        assert!(sample.root().join(EDITS).join("more.edit").exists());
+    }
+
+    #[test]
+    fn labels_of_an_earlier_run() {
+        assert_eq!(packed_number("wrong_12"), Some(12));
+        assert_eq!(
+            ["wrong_", "wrong_1a", "wrong_+1", "more"].map(packed_number),
+            [None; 4]
+        );
+    }
+}
