@@ -212,9 +212,18 @@ mod tests {
 
     #[test]
     fn a_paper_that_is_not_there_is_an_error() {
-        let sample = Sample::new(&[("crates.txt", "")]);
+        let sample = Sample::new(&[("crates/c/src/lib.rt", "")]);
         assert!(
             audit(sample.root(), false).is_err_and(|error| error.starts_with("docs/PROMISES.md: "))
+        );
+    }
+
+    #[test]
+    fn a_folder_without_crates_is_no_repository() {
+        let sample = Sample::new(&[("crates.txt", ""), ("docs/PROMISES.md", "")]);
+        assert!(
+            audit(sample.root(), false)
+                .is_err_and(|error| error.ends_with("has no folder crates/"))
         );
     }
 }

@@ -52,8 +52,11 @@ pub fn with_suffix(root: &Path, folder: &Path, wanted: &str) -> Result<Vec<PathB
     Ok(found)
 }
 
-/// The names of the crates: the folders of `crates/`, in order.
+/// The names of the crates: the folders of `crates/`, in order. Without that folder nothing is the repository.
 pub fn crate_names(root: &Path) -> Result<Vec<String>> {
+    if !root.join("crates").is_dir() {
+        return Err(format!("{}: has no folder crates/", root.display()));
+    }
     let mut folders = entries(root, Path::new("crates"))?;
     folders.retain(|path| root.join(path).is_dir());
     folders.sort();

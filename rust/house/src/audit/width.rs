@@ -39,20 +39,20 @@ fn block(suffix: &str) -> Option<(&'static str, &'static str)> {
 
 /// The lines that are a comment or end in one behind code that is not too wide itself, and those of a block of text.
 fn comments<'a>(text: &'a str, suffix: &str) -> Vec<Line<'a>> {
-    let mark = mark(suffix).unwrap_or("#");
+    let (mark, block) = (mark(suffix).unwrap_or("#"), block(suffix));
     let (mut found, mut inside) = (Vec::new(), false);
     for (number, line) in (1..).zip(text.lines()) {
         let code = scan::before_comment(line, mark);
-        let behind = block(suffix).and_then(|(begin, _)| line.trim_start().strip_prefix(begin));
-        let begins = behind.filter(|_| !inside);
-        if inside || begins.is_some() || (code != line && columns(code) <= WIDTH) {
+        let in_block = block.and_then(|(begin, _)| match inside {
+            true => Some(line),
+            false => line.trim_start().strip_prefix(begin),
+        });
+        if in_block.is_some() || (code != line && columns(code) <= WIDTH) {
             found.push((number, line));
         }
-        if let (Some(rest), Some((_, end))) =
-            (if inside { Some(line) } else { begins }, block(suffix))
-        {
-            inside = !rest.contains(end);
-        }
+        inside = in_block
+            .zip(block)
+            .is_some_and(|(rest, (_, end))| !rest.contains(end));
     }
     found
 }
