@@ -22,7 +22,7 @@ head_of() {
 prints() {
     local root=$scratch/$1
     rm -rf "$root" && mkdir -p "$root" && cp -r crates crates.txt "$root" || return 1
-    if [[ $# -eq 4 ]]; then tools/edits.py apply "$3" "$4" "$root" || return 1; fi
+    if [[ $# -eq 4 ]]; then tools/house apply "$3" "$4" "$root" || return 1; fi
     mkdir -p "$root/crates/shown/src" || return 1
     echo 'shown: capi io libc' >>"$root/crates.txt"
     cat tests/wrong/prelude.rt.in "tests/wrong/$1.rt.in" >"$root/crates/shown/src/main.rt"
