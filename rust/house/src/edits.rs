@@ -58,6 +58,11 @@ impl WrongProgram {
         format!("{}/{}", self.in_crate, self.label)
     }
 
+    /// How it is spoken of.
+    pub fn cited(&self) -> String {
+        format!("{}: {}: {}", self.edit(), self.name, self.what)
+    }
+
     /// A file of its crate.
     pub fn path(&self, file: &str) -> PathBuf {
         files::crate_folder(&self.in_crate).join(file)

@@ -23,35 +23,30 @@ use crate::edits::{self, WrongProgram};
 use crate::files::{self, Result};
 use clash::Clashes;
 use papers::Moved;
-use std::path::Path;
+use std::path::{Path, PathBuf};
 
 /// The number of a label that an earlier run gave, wrong_NUMBER.
 fn packed_number(label: &str) -> Option<usize> {
     let digits = label.strip_prefix("wrong_")?;
-    if digits.contains(|c: char| !c.is_ascii_digit()) {
-        None
-    } else {
-        digits.parse().ok()
-    }
+    let all_digits = digits.chars().all(|c| c.is_ascii_digit());
+    digits.parse().ok().filter(|_| all_digits)
+}
+
+fn edits_folder(in_crate: &str) -> PathBuf {
+    files::crate_folder(in_crate).join("must-fail")
 }
 
 /// Packs the named crates, or all, and says what it did.
 pub fn pack(root: &Path, crates: &[&str]) -> Result<Vec<String>> {
     let all = files::crate_names(root)?;
-    let named: Vec<&str> = if crates.is_empty() {
-        all.iter().map(String::as_str).collect()
-    } else {
-        crates.to_vec()
-    };
+    let mut named: Vec<&str> = crates.to_vec();
+    if named.is_empty() {
+        named.extend(all.iter().map(String::as_str));
+    }
+    named.retain(|in_crate| root.join(edits_folder(in_crate)).is_dir());
     let (mut said, mut moved) = (Vec::new(), Moved::default());
     for in_crate in named {
-        if root
-            .join(files::crate_folder(in_crate))
-            .join("must-fail")
-            .is_dir()
-        {
-            said.extend(pack_crate(root, in_crate, &mut moved)?);
-        }
+        said.extend(pack_crate(root, in_crate, &mut moved)?);
     }
     for paper in files::with_suffix(root, Path::new("docs"), "md")? {
         let text = files::read(root, &paper)?;
@@ -67,18 +62,12 @@ pub fn pack(root: &Path, crates: &[&str]) -> Result<Vec<String>> {
 fn pack_crate(root: &Path, in_crate: &str, moved: &mut Moved) -> Result<Vec<String>> {
     let programs = edits::programs_of(root, in_crate)?;
     if let Some(empty) = programs.iter().find(|program| program.changes.is_empty()) {
-        return Err(format!(
-            "{}: {}: {}: changes nothing",
-            empty.edit(),
-            empty.name,
-            empty.what
-        ));
+        return Err(format!("{}: changes nothing", empty.cited()));
     }
     let clashes = Clashes::read(root, in_crate, &programs)?;
-    let alone = (0..programs.len()).filter(|number| !clashes.apply(&[*number]));
-    let stale = alone.map(|number| &programs[number]);
+    let stale = (0..programs.len()).filter(|number| !clashes.apply(&[*number]));
     let mut said: Vec<String> = stale
-        .map(|p| format!("{}: {}: {}: no longer applies", p.edit(), p.name, p.what))
+        .map(|number| format!("{}: no longer applies", programs[number].cited()))
         .collect();
     let groups = groups::grouped(&clashes);
     let before = edits::edits_of(root, in_crate)?;
@@ -88,9 +77,7 @@ fn pack_crate(root: &Path, in_crate: &str, moved: &mut Moved) -> Result<Vec<Stri
     for (number, group) in (1..).zip(&groups) {
         let label = format!("wrong_{number}");
         let group: Vec<&WrongProgram> = group.iter().map(|at| &programs[*at]).collect();
-        let path = files::crate_folder(in_crate)
-            .join("must-fail")
-            .join(format!("{label}.edit"));
+        let path = edits_folder(in_crate).join(format!("{label}.edit"));
         files::write(root, &path, &edits::text_of(in_crate, &group))?;
         group.iter().for_each(|program| moved.note(program, &label));
     }

@@ -136,12 +136,10 @@ pub fn line_at(text: &str, at: usize) -> usize {
 pub fn before_comment<'a>(line: &'a str, mark: &str) -> &'a str {
     let mut code_ends = Some(0);
     for (at, c) in line.char_indices() {
-        if let Some(end) = code_ends
-            && line[at..].starts_with(mark)
-        {
-            return &line[..end];
+        match code_ends {
+            Some(end) if line[at..].starts_with(mark) => return &line[..end],
+            _ => code_ends = c.is_whitespace().then_some(at),
         }
-        code_ends = c.is_whitespace().then_some(at);
     }
     line
 }

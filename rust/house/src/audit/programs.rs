@@ -5,23 +5,15 @@ use crate::edits::{Change, WrongProgram};
 use crate::files::Result;
 use crate::scan;
 use crate::sources::Function;
+use std::collections::BTreeSet;
 
 /// Those that do not say where they differ.
 pub fn without_input(repository: &Repository) -> Result<Vec<String>> {
-    let unsaid = repository
-        .programs
-        .iter()
-        .filter(|program| program.differs.is_empty());
-    Ok(unsaid
-        .map(|p| {
-            format!(
-                "{}: {}: {}: does not say where it differs",
-                p.edit(),
-                p.name,
-                p.what
-            )
-        })
-        .collect())
+    let programs = repository.programs.iter();
+    let unsaid = programs.filter(|program| program.differs.is_empty());
+    let objected =
+        unsaid.map(|program| format!("{}: does not say where it differs", program.cited()));
+    Ok(objected.collect())
 }
 
 /// Whether a change is made in a function's own code.
@@ -30,14 +22,20 @@ fn changes(program: &WrongProgram, change: &Change, function: &Function) -> bool
     program.path(&change.file) == function.source && function.body.contains(code)
 }
 
+/// Whether a function's code has one of some constants.
+fn reads_any(function: &Function, constants: &BTreeSet<String>) -> bool {
+    let mut constants = constants.iter();
+    constants.any(|constant| scan::has_word(&function.body, constant))
+}
+
 /// Those that change something else than their function: its proof would be refused for another's change, or for none.
 pub fn of_another(repository: &Repository) -> Result<Vec<String>> {
     let mut found = Vec::new();
-    for program in repository
+    let of_functions = repository
         .programs
         .iter()
-        .filter(|program| !program.is_law())
-    {
+        .filter(|program| !program.is_law());
+    for program in of_functions {
         let Some(function) = repository.function_of(program) else {
             found.push(format!(
                 "{}: {} is no function",
@@ -46,20 +44,11 @@ pub fn of_another(repository: &Repository) -> Result<Vec<String>> {
             ));
             continue;
         };
-        let constants = program.constants(&repository.root)?;
-        if constants
-            .iter()
-            .any(|constant| scan::has_word(&function.body, constant))
-        {
-            continue;
-        }
-        for _ in program
-            .changes
-            .iter()
-            .filter(|change| !changes(program, change, function))
-        {
-            let (edit, name, what) = (program.edit(), &program.name, &program.what);
-            found.push(format!("{edit}: {name}: {what}: changes something else"));
+        let read = reads_any(function, &program.constants(&repository.root)?);
+        for change in &program.changes {
+            if !read && !changes(program, change, function) {
+                found.push(format!("{}: changes something else", program.cited()));
+            }
         }
     }
     Ok(found)
@@ -136,7 +125,7 @@ mod tests {
     #[test]
     fn a_constant_that_two_of_one_edit_meet_in_is_objected_to() {
         let one = edit("f", "ONE: u8 = 1", "ONE: u8 = 2");
-        let reads = edit("h", "    ONE\n", "    2\n").replace("\n\n", "\n");
+        let reads = edit("h", "    ONE", "    2");
         assert_eq!(
             with_program(&(one.clone() + &reads)),
             ["c/wrong_3: f changes ONE, which h reads"]

@@ -103,14 +103,14 @@ fn contract(code: &str, tokens: &[Token], at: usize) -> (Vec<Clause>, usize) {
         &["requires", "ensures", "{"],
     );
     let mut clauses = Vec::new();
-    while at + 1 < tokens.len() && tokens[at].text != "{" && tokens[at + 1].text == "{" {
-        if !["requires", "ensures"].contains(&tokens[at].text) {
+    while let [kind, brace, ..] = &tokens[at..] {
+        if !["requires", "ensures"].contains(&kind.text) || brace.text != "{" {
             break;
         }
         let past = scan::past_bracket(tokens, at + 1);
         clauses.push(Clause {
-            kind: tokens[at].text.to_string(),
-            first: scan::line_at(code, tokens[at].at),
+            kind: kind.text.to_string(),
+            first: scan::line_at(code, kind.at),
             last: scan::line_at(code, tokens[past - 1].at),
         });
         at = past;
