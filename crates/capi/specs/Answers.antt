@@ -1,4 +1,5 @@
--- Answers of the library as the numbers that another language is given. On a refusal every field but `number` is 0; 30 also has the needed length.
+-- Answers of the library as the numbers that another language is given. On a refusal every field but `number` is 0; 30
+-- also has the needed length.
 -- Assumes nothing.
 use Rattle.publicpart.specs.declared.Answer.{Answer}
 use Rattle.publicpart.specs.declared.Answer.the-variants as answer

@@ -17,13 +17,15 @@ byReturnNumbers b = b .first ∷ b .second ∷ b .third ∷ b .fourth ∷ b .fif
 
 -- doubles by their 64 bits
 unfoldable pub scaleNumbers : Scaling → List ℕ
-scaleNumbers s = toBits binary64 (s .«x_scale») ∷ toBits binary64 (s .«y_scale») ∷ toBits binary64 (s .«z_scale») ∷ []
+scaleNumbers s =
+    toBits binary64 (s .«x_scale») ∷ toBits binary64 (s .«y_scale») ∷ toBits binary64 (s .«z_scale») ∷ []
 
 unfoldable pub offsetNumbers : Scaling → List ℕ
-offsetNumbers s = toBits binary64 (s .«x_offset») ∷ toBits binary64 (s .«y_offset») ∷ toBits binary64 (s .«z_offset») ∷ []
+offsetNumbers s =
+    toBits binary64 (s .«x_offset») ∷ toBits binary64 (s .«y_offset») ∷ toBits binary64 (s .«z_offset») ∷ []
 
-unfoldable pub headerFields : Header → «las_header»
-headerFields h =
+unfoldable pub foundHeader : Header → «las_header»
+foundHeader h =
     record {
       number = 0;
       «file_source_id» = h .identity .«file_source_id»;
@@ -79,5 +81,5 @@ noHeader n =
     }
 
 unfoldable pub headerNumbers : HeaderRead → «las_header»
-headerNumbers (Fields h) = headerFields h
+headerNumbers (Fields h) = foundHeader h
 headerNumbers (Refused n) = noHeader n

@@ -1,10 +1,10 @@
--- The interface for other languages, in the order of its header file: what each function answers, and the lent bytes afterwards.
+-- The interface for other languages, in the order of its header file: what each function answers, and the lent bytes
+-- afterwards.
 -- Assumes nothing.
 use Prim.Native.Nat.{ℕ}
 use lib.IntN.{ℤ}
 use lib.Ieee.{binary64, ofBits}
 use Rattle.fields.specs.Bytes.{Bytes}
-use Rattle.fields.specs.Text.{cut}
 use Rattle.fields.specs.Checks.{numberOf}
 use Rattle.points.specs.Points.{decoded}
 use Rattle.points.specs.Encoding.{encoded}
@@ -14,8 +14,7 @@ use Rattle.reader.specs.Header.{headerRead}
 use Rattle.reader.specs.Steps.{stepOf}
 use Rattle.reader.specs.OnePoint.{pointAtOf}
 use Rattle.sheet.specs.Sheet.{sheetVerdict}
-use Rattle.sheet.specs.Keeping.{keepsClass, keepsRecord}
-use Rattle.sheet.specs.KeptAnswers.{keptUnder}
+use Rattle.sheet.specs.Keeping.{classKept, recordKept}
 use Rattle.geokeys.specs.GeoKeys.{lookup}
 use Rattle.publicpart.specs.Release.{release}
 use Rattle.capi.specs.Answers.{releasedNumbers, keptNumbers}
@@ -53,20 +52,20 @@ lasDecode format recordLength bytes = decodedNumbers (decoded format recordLengt
 -- the number, and the room afterwards
 unfoldable pub lasEncode : ℕ → ℕ → «las_point» → Bytes → ℕ × Bytes
 lasEncode format recordLength point room =
-    (numberOf (encoded format recordLength (givenPoint point) room .0), encoded format recordLength (givenPoint point) room .1)
+    let e = encoded format recordLength (givenPoint point) room in (numberOf (e .0), e .1)
 
 unfoldable pub lasCoordinate : ℤ → ℕ → ℕ → ℕ
 lasCoordinate stored scale offset = coordinateBits stored (ofBits binary64 scale) (ofBits binary64 offset)
 
 unfoldable pub lasClassKept : Bytes → ℕ → «las_kept»
-lasClassKept sheet class = keptNumbers (keptUnder (sheetVerdict sheet) (keepsClass sheet class))
+lasClassKept sheet class = keptNumbers (classKept sheet class)
 
 unfoldable pub lasRecordKept : Bytes → Bytes → ℕ → «las_kept»
-lasRecordKept sheet user id = keptNumbers (keptUnder (sheetVerdict sheet) (keepsRecord sheet (cut user) id))
+lasRecordKept sheet user id = keptNumbers (recordKept sheet user id)
 
 unfoldable pub lasGeokeyFind : Bytes → ℕ → «las_geokey»
 lasGeokeyFind file key = geokeyNumbers (lookup file key)
 
 -- the numbers, and the output afterwards
 unfoldable pub lasRelease : Bytes → Bytes → Bytes → «las_released» × Bytes
-lasRelease file sheet out = (releasedNumbers (release sheet file out .0), release sheet file out .1)
+lasRelease file sheet out = let r = release sheet file out in (releasedNumbers (r .0), r .1)

@@ -13,8 +13,8 @@ use Rattle.reader.specs.declared.point.PointAt.the-variants.{At, Refused}
 use Rattle.capi.specs.declared.point.«las_point».{«las_point»}
 
 -- a point whose record lies at a place; its flags are 0 or 1
-unfoldable pub pointFields : ℕ → Point → «las_point»
-pointFields place p =
+unfoldable pub foundPoint : ℕ → Point → «las_point»
+foundPoint place p =
     record {
       number = 0;
       place = place;
@@ -60,12 +60,12 @@ noPoint n =
     }
 
 unfoldable pub pointNumbers : PointAt → «las_point»
-pointNumbers (At place p) = pointFields place p
+pointNumbers (At place p) = foundPoint place p
 pointNumbers (Refused n) = noPoint n
 
 -- its place is 0
 unfoldable pub decodedNumbers : Decoded → «las_point»
-decodedNumbers (decoded.Fields p) = pointFields 0 p
+decodedNumbers (decoded.Fields p) = foundPoint 0 p
 decodedNumbers (decoded.Refused n) = noPoint n
 
 -- a flag that is given: 0 is no, anything else is yes

@@ -1,4 +1,5 @@
--- What is found in a file's records, as the numbers that another language is given. On a refusal every field but `number` is 0.
+-- What is found in a file's records, as the numbers that another language is given. On a refusal every field but
+-- `number` is 0.
 -- Assumes nothing.
 use Prim.Native.Nat.{ℕ}
 use Rattle.reader.specs.declared.cursor.RecordPlaces.{RecordPlaces}
@@ -11,8 +12,8 @@ use Rattle.capi.specs.declared.vlr.«las_record».{«las_record»}
 use Rattle.capi.specs.declared.vlr.«las_geokey».{«las_geokey»}
 
 -- a record's places, and the cursor after it
-unfoldable pub recordFields : RecordPlaces → VlrCursor → «las_record»
-recordFields r next =
+unfoldable pub foundRecord : RecordPlaces → VlrCursor → «las_record»
+foundRecord r next =
     record {
       number = 0;
       «user_place» = r .«user_place»;
@@ -42,7 +43,7 @@ noRecord n =
     }
 
 unfoldable pub recordNumbers : Step → «las_record»
-recordNumbers (Record r next) = recordFields r next
+recordNumbers (Record r next) = foundRecord r next
 recordNumbers (Refused n) = noRecord n
 
 -- the location and two numbers: a value and 0, a double's 64 bits and 0, a text's place in the file and its length

@@ -1,7 +1,8 @@
-// Answers of the library as structs of numbers with C's layout: document 01's number first, 0 where it is accepted.
+// Answers of the library as structs of numbers with C's layout: the refusal's number first, 0 where it is accepted.
 ghost use mathlib.Core.Path.{_≡_};
 ghost use Rattle.fields.specs.Checks.{numberOf};
 ghost use Rattle.capi.specs.Answers.{releasedNumbers, keptNumbers};
+use fields::refusals;
 use sheet::answers;
 
 #[repr(C)]
@@ -19,7 +20,7 @@ pub struct las_kept {
 }
 
 // The number of a verdict.
-pub fn number_of(verdict: fields::Verdict) -> u64
+pub(crate) fn number_of(verdict: fields::Verdict) -> u64
     ensures { λ r. ⌜ r ≡ numberOf verdict ⌝ }
 {
     match verdict {
@@ -28,7 +29,7 @@ pub fn number_of(verdict: fields::Verdict) -> u64
     }
 }
 
-fn accepted(length: usize, points: usize, records: usize) -> las_released
+fn released(length: usize, points: usize, records: usize) -> las_released
     ensures { λ r. ⌜ r ≡ record { number = 0; length = length; points = points; records = records } ⌝ }
 {
     las_released {
@@ -52,18 +53,18 @@ fn refused(number: u64, needed: usize) -> las_released
 }
 
 // The numbers of a release.
-pub fn released_of(answer: publicpart::Answer) -> las_released
+pub(crate) fn released_of(answer: publicpart::Answer) -> las_released
     ensures { λ r. ⌜ r ≡ releasedNumbers answer ⌝ }
 {
     match answer {
-        publicpart::Answer::Released(length, points, records) => accepted(length, points, records),
-        publicpart::Answer::Short(needed) => refused(30, needed),
+        publicpart::Answer::Released(length, points, records) => released(length, points, records),
+        publicpart::Answer::Short(needed) => refused(refusals::OUTPUT_TOO_SHORT, needed),
         publicpart::Answer::Refused(number) => refused(number, 0),
     }
 }
 
 // The numbers of what a sheet says of a class or a record.
-pub fn kept_of(kept: answers::Kept) -> las_kept
+pub(crate) fn kept_of(kept: answers::Kept) -> las_kept
     ensures { λ r. ⌜ r ≡ keptNumbers kept ⌝ }
 {
     match kept {

@@ -1,7 +1,7 @@
 // A header as a struct of numbers with C's layout.
 ghost use mathlib.Core.Path.{_≡_};
 ghost use Rattle.publicpart.specs.Bounds.{boundNumbers};
-ghost use Rattle.capi.specs.HeaderAnswers.{byReturnNumbers, scaleNumbers, offsetNumbers, noHeader, headerFields, headerNumbers};
+ghost use Rattle.capi.specs.HeaderAnswers.{byReturnNumbers, scaleNumbers, offsetNumbers, noHeader, foundHeader, headerNumbers};
 use reader::header;
 use scaling::doubles::bits_of;
 
@@ -33,19 +33,19 @@ pub struct las_header {
     pub bounds: [u64; 6],
 }
 
-fn by_return_of(b: header::ByReturn) -> [u64; 5]
+fn by_return_numbers(b: header::ByReturn) -> [u64; 5]
     ensures { λ r. ⌜ r ≡ byReturnNumbers b ⌝ }
 {
     [b.first, b.second, b.third, b.fourth, b.fifth]
 }
 
-fn scales_of(s: scaling::Scaling) -> [u64; 3]
+fn scale_numbers(s: scaling::Scaling) -> [u64; 3]
     ensures { λ r. ⌜ r ≡ scaleNumbers s ⌝ }
 {
     [bits_of(s.x_scale), bits_of(s.y_scale), bits_of(s.z_scale)]
 }
 
-fn offsets_of(s: scaling::Scaling) -> [u64; 3]
+fn offset_numbers(s: scaling::Scaling) -> [u64; 3]
     ensures { λ r. ⌜ r ≡ offsetNumbers s ⌝ }
 {
     [
@@ -55,7 +55,7 @@ fn offsets_of(s: scaling::Scaling) -> [u64; 3]
     ]
 }
 
-fn bounds_of(b: scaling::Bounds) -> [u64; 6]
+fn bound_numbers(b: scaling::Bounds) -> [u64; 6]
     ensures { λ r. ⌜ r ≡ boundNumbers b ⌝ }
 {
     [b.max_x, b.min_x, b.max_y, b.min_y, b.max_z, b.min_z]
@@ -92,12 +92,12 @@ fn no_header(number: u64) -> las_header
 }
 
 fn header_numbers(h: header::Header) -> las_header
-    ensures { λ r. ⌜ r ≡ headerFields h ⌝ }
+    ensures { λ r. ⌜ r ≡ foundHeader h ⌝ }
 {
-    let by_return = by_return_of(h.by_return);
-    let scale = scales_of(h.scaling);
-    let offset = offsets_of(h.scaling);
-    let bounds = bounds_of(h.bounds);
+    let by_return = by_return_numbers(h.by_return);
+    let scale = scale_numbers(h.scaling);
+    let offset = offset_numbers(h.scaling);
+    let bounds = bound_numbers(h.bounds);
     las_header {
         number: 0,
         file_source_id: h.identity.file_source_id,
@@ -126,7 +126,7 @@ fn header_numbers(h: header::Header) -> las_header
 }
 
 // The numbers of a header.
-pub fn header_of(answer: header::HeaderRead) -> las_header
+pub(crate) fn header_of(answer: header::HeaderRead) -> las_header
     ensures { λ r. ⌜ r ≡ headerNumbers answer ⌝ }
 {
     match answer {

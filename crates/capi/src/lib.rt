@@ -1,4 +1,5 @@
-// The interface for other languages: each function calls the library's and hands its answer back as numbers. A lent `out` or `room` overlaps no other argument.
+// The interface for other languages: each function calls the library's and hands its answer back as numbers. A lent
+// `out` or `room` overlaps no other argument.
 pub mod answers;
 pub mod header;
 pub mod point;

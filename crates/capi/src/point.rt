@@ -1,6 +1,6 @@
 // A point as a struct of numbers with C's layout, and back.
 ghost use mathlib.Core.Path.{_≡_};
-ghost use Rattle.capi.specs.PointAnswers.{pointFields, noPoint, pointNumbers, decodedNumbers, givenPoint};
+ghost use Rattle.capi.specs.PointAnswers.{foundPoint, noPoint, pointNumbers, decodedNumbers, givenPoint};
 use reader::point;
 
 // The flags are 0 or 1 in an answer; in a point that is given, anything but 0 is yes.
@@ -28,7 +28,7 @@ pub struct las_point {
 
 // The numbers of a point and of its record's place.
 fn point_numbers(place: usize, point: points::Point) -> las_point
-    ensures { λ r. ⌜ r ≡ pointFields place point ⌝ }
+    ensures { λ r. ⌜ r ≡ foundPoint place point ⌝ }
 {
     las_point {
         number: 0,
@@ -78,7 +78,7 @@ fn no_point(number: u64) -> las_point
 }
 
 // The numbers of one point of a file.
-pub fn point_of(answer: point::PointAt) -> las_point
+pub(crate) fn point_of(answer: point::PointAt) -> las_point
     ensures { λ r. ⌜ r ≡ pointNumbers answer ⌝ }
 {
     match answer {
@@ -88,7 +88,7 @@ pub fn point_of(answer: point::PointAt) -> las_point
 }
 
 // The numbers of a point that was decoded, which lies at no place.
-pub fn decoded_of(answer: points::Decoded) -> las_point
+pub(crate) fn decoded_of(answer: points::Decoded) -> las_point
     ensures { λ r. ⌜ r ≡ decodedNumbers answer ⌝ }
 {
     match answer {
@@ -98,7 +98,7 @@ pub fn decoded_of(answer: points::Decoded) -> las_point
 }
 
 // The point that is given to be encoded: its number and place are not looked at.
-pub fn given_point(point: las_point) -> points::Point
+pub(crate) fn given_point(point: las_point) -> points::Point
     ensures { λ r. ⌜ r ≡ givenPoint point ⌝ }
 {
     points::Point {

@@ -1,6 +1,6 @@
 // What is found in a file's records, as structs of numbers with C's layout: a step of the walk, and a GeoKey.
 ghost use mathlib.Core.Path.{_≡_};
-ghost use Rattle.capi.specs.RecordAnswers.{recordFields, noRecord, recordNumbers, geokeyNumbers};
+ghost use Rattle.capi.specs.RecordAnswers.{foundRecord, noRecord, recordNumbers, geokeyNumbers};
 use reader::cursor;
 
 #[repr(C)]
@@ -27,7 +27,7 @@ pub struct las_geokey {
 
 // The numbers of a record, and of the cursor after it.
 fn record_numbers(places: cursor::RecordPlaces, next: cursor::VlrCursor) -> las_record
-    ensures { λ r. ⌜ r ≡ recordFields places next ⌝ }
+    ensures { λ r. ⌜ r ≡ foundRecord places next ⌝ }
 {
     las_record {
         number: 0,
@@ -61,7 +61,7 @@ fn no_record(number: u64) -> las_record
 }
 
 // The numbers of one step of the walk.
-pub fn record_of(step: cursor::Step) -> las_record
+pub(crate) fn record_of(step: cursor::Step) -> las_record
     ensures { λ r. ⌜ r ≡ recordNumbers step ⌝ }
 {
     match step {
@@ -82,7 +82,7 @@ fn geokey(number: u64, location: u64, value: u64, length: u64) -> las_geokey
 }
 
 // The numbers of a lookup.
-pub fn geokey_of(found: geokeys::GeoKey) -> las_geokey
+pub(crate) fn geokey_of(found: geokeys::GeoKey) -> las_geokey
     ensures { λ r. ⌜ r ≡ geokeyNumbers found ⌝ }
 {
     match found {

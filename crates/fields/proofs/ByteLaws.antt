@@ -42,7 +42,7 @@ num-lt (suc w) (b ∷ bs) h = omega (arith, h 0, num-lt w bs (λ i. h (suc i)))
 pub drop-bytes : (at : ℕ) (s : Bytes) → AllBytes s → AllBytes (drop at s)
 drop-bytes at s h i = rw getD-drop (h (at + i))
 
-take-bytes : (w : ℕ) (s : Bytes) → AllBytes s → AllBytes (take w s)
+pub take-bytes : (w : ℕ) (s : Bytes) → AllBytes s → AllBytes (take w s)
 take-bytes zero s h i = omega arith
 take-bytes (suc w) [] h i = omega arith
 take-bytes (suc w) (b ∷ bs) h zero = h 0

@@ -3,7 +3,7 @@
 use mathlib.Core.Path.{_≡_}
 use Prim.Native.Nat.{ℕ, zero, suc, _+_, _*_, _/_, _%_, _<_}
 use mathlib.Core.Bool.{Bool, true, false, _&&_}
-use mathlib.Core.List.{List, [], _∷_, _++_}
+use mathlib.Core.List.{List, [], _∷_, _++_, map}
 use lib.ListN.{length, take, drop, getD, replicate}
 use lib.Dec.{eqb}
 
@@ -61,3 +61,6 @@ Fit [] [] = Unit {0}
 Fit [] (f ∷ fs) = ⊥
 Fit (w ∷ ws) [] = ⊥
 Fit (w ∷ ws) (f ∷ fs) = (length f ≡ w) × Fit ws fs
+
+unfoldable pub numbersBytes : ℕ → List ℕ → Bytes
+numbersBytes w ns = join (map (bytesOf w) ns)

@@ -31,7 +31,7 @@ Clear (x differs-from y) = x ≡ y
 Clear (not-so b) = T b
 Clear (t or u) = Clear t × Clear u
 
--- a number of document 01's table, given where the test fails
+-- a number of the specification's tables (docs/SPECIFICATION.md), given where the test fails
 abbrev pub Check : Type 0
 Check = ℕ × Test
 
@@ -48,7 +48,7 @@ unfoldable pub then : Verdict → Verdict → Verdict
 then Passes later = later
 then (Fails n) later = Fails n
 
--- the number that document 01 returns for a verdict
+-- the number that is returned for a verdict
 unfoldable pub numberOf : Verdict → ℕ
 numberOf Passes = 0
 numberOf (Fails n) = n

@@ -2,4 +2,3 @@ pub mod Lists
 pub mod Bytes
 pub mod Text
 pub mod Checks
-pub mod NumberRuns

@@ -6,7 +6,7 @@ use mathlib.Core.List.{[], _∷_, _++_}
 use lib.ListN.{length}
 use Rattle.fields.specs.Bytes.{Bytes, zeros}
 
--- document 01's "cut", a text field's meaning: its bytes before the first zero byte, or all of them if there is none
+-- the "cut" of a text field, its meaning: its bytes before the first zero byte, or all of them if there is none
 unfoldable pub cut : Bytes → Bytes
 cut [] = []
 cut (zero ∷ bs) = []

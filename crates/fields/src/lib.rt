@@ -2,6 +2,7 @@
 pub mod arrays;
 pub mod copying;
 pub mod numbers;
+pub mod refusals;
 pub mod signed;
 pub mod slices;
 pub mod text;

@@ -1,4 +1,5 @@
-// Little-endian numbers of any width up to 8 bytes, read and written at any place. Bytes past the end read as 0 and are not written.
+// Little-endian numbers of any width up to 8 bytes, read and written at any place. Bytes past the end read as 0 and are
+// not written.
 ghost use mathlib.Core.Path.{_≡_};
 ghost use Prim.Native.Nat.{_+_, _*_, _^_, _≤_, _<_, min};
 ghost use lib.Dec.{leb};
@@ -18,7 +19,7 @@ pub fn fits_in(length: usize, at: usize, n: usize) -> bool
 }
 
 // The smaller of the two.
-pub fn least(a: usize, b: usize) -> usize
+pub(crate) fn least(a: usize, b: usize) -> usize
     ensures { λ r. ⌜ r ≡ min a b ⌝ }
 {
     if a < b { a } else { b }

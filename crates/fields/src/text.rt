@@ -2,7 +2,7 @@
 ghost use mathlib.Core.Path.{_≡_};
 ghost use lib.ListN.{length};
 ghost use lib.Seq.{sets};
-ghost use Rattle.fields.specs.Bytes.{same};
+ghost use Rattle.fields.specs.Bytes.{part, same};
 ghost use Rattle.fields.specs.Text.{cut, padded};
 use crate::copying;
 use crate::slices;
@@ -31,16 +31,17 @@ pub fn same_cut(a: &[u8], b: &[u8]) -> bool
     )
 }
 
-// Writes a text's cut into a field of `width` bytes, padded with zeros.
-pub fn put_text(dst: &mut [u8], at: usize, width: usize, text: &[u8])
-    ensures { λ _. ⌜ now (dst .exit) ≡ sets (now (dst .entry)) at (padded width (cut (now (text .entry)))) ⌝ }
+// Writes the cut of the text in the `width` bytes at `from` of `source` into the field of `width` bytes at a place,
+// padded with zeros.
+pub fn put_text(dst: &mut [u8], at: usize, width: usize, source: &[u8], from: usize)
+    ensures { λ _. ⌜ now (dst .exit)
+        ≡ sets (now (dst .entry)) at (padded width (cut (part from width (now (source .entry))))) ⌝ }
 {
     if dst.len() <= at {
         return;
     }
+    let text = slices::part_at(source, from, width);
     let n = cut_length(text);
     copying::copy(slices::part_at(text, 0, n), dst, at);
-    if n < width {
-        slices::zero(dst, at + n, width - n);
-    }
+    slices::zero(dst, at + n, width - n);
 }

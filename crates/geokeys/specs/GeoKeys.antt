@@ -1,4 +1,4 @@
--- GeoKey lookups, over the records before the points. Numbers 40 to 46 are document 01's.
+-- GeoKey lookups, over the records before the points: numbers 40 to 46 of the specification (docs/SPECIFICATION.md).
 -- Assumes nothing.
 use Prim.Native.Nat.{ℕ, _+_, _*_}
 use mathlib.Core.Bool.{Bool, true, false, _&&_, _||_}
@@ -99,27 +99,37 @@ abbrev pub textChecks : Bytes → Bytes → List Check
 textChecks entry parameters = (46, length parameters below offsetOf entry + countOf entry) ∷ []
 
 unfoldable pub doubleIn : Bytes → Bytes → GeoKey
-doubleIn entry parameters = answerIf (firstFailing (doubleChecks entry parameters)) (Double (num (part (8 * offsetOf entry) 8 parameters)))
+doubleIn entry parameters =
+    answerIf (firstFailing (doubleChecks entry parameters)) (Double (num (part (8 * offsetOf entry) 8 parameters)))
 
 -- the text's place in the file, and its length
 unfoldable pub textIn : Bytes → ℕ → Bytes → GeoKey
 textIn entry at parameters =
     answerIf (firstFailing (textChecks entry parameters)) (Text (at + frontSize 2 + offsetOf entry) (countOf entry))
 
+-- the value of an entry in the payload of the parameter record at a place
+abbrev pub inPayload : Bytes → ℕ → Bytes → GeoKey
+inPayload entry at parameters =
+    either (eqb (locationOf entry) 34736) (doubleIn entry parameters) (textIn entry at parameters)
+
 unfoldable pub inParameters : Bytes → Bytes → Option ℕ → GeoKey
 inParameters s entry none = Refused 45
-inParameters s entry (some at) = either (eqb (locationOf entry) 34736) (doubleIn entry (payloadAt s at)) (textIn entry at (payloadAt s at))
+inParameters s entry (some at) = inPayload entry at (payloadAt s at)
 
 unfoldable pub fromEntry : Bytes → Option Bytes → GeoKey
 fromEntry s none = Refused 42
 fromEntry s (some entry) =
     answerIf (firstFailing (entryChecks entry))
-    (either (eqb (locationOf entry) 0) (Value (offsetOf entry)) (inParameters s entry (projectionPlace s (locationOf entry))))
+    (either (eqb (locationOf entry) 0) (Value (offsetOf entry))
+    (inParameters s entry (projectionPlace s (locationOf entry))))
+
+-- the value of a key in a directory
+abbrev pub inDirectory : Bytes → Bytes → ℕ → GeoKey
+inDirectory s directory key = answerIf (firstFailing (directoryChecks directory)) (fromEntry s (entryOf directory key))
 
 unfoldable pub fromDirectory : Bytes → ℕ → Option ℕ → GeoKey
 fromDirectory s key none = Refused 40
-fromDirectory s key (some at) =
-    answerIf (firstFailing (directoryChecks (payloadAt s at))) (fromEntry s (entryOf (payloadAt s at) key))
+fromDirectory s key (some at) = inDirectory s (payloadAt s at) key
 
 -- a lookup checks the file, then 40 to 46
 unfoldable pub lookup : Bytes → ℕ → GeoKey

@@ -2,19 +2,21 @@
 ghost use mathlib.Core.Path.{_≡_};
 ghost use mathlib.Core.Option.{some};
 ghost use Prim.Native.Nat.{_+_, _<_, _^_};
-ghost use lib.Dec.{eqb};
 ghost use Rattle.fields.specs.Checks.{firstFailing};
 ghost use Rattle.fields.specs.declared.Verdict.the-variants.{Passes};
 ghost use Rattle.lasfile.specs.FileChecks.{fileVerdict};
-ghost use Rattle.geokeys.specs.GeoKeys.{isProjection, projectionPlace, payloadAt, directoryChecks, entryOf, locationOf, either, doubleIn, textIn, answerIf, fromEntry, lookup};
+ghost use Rattle.geokeys.specs.GeoKeys.{isProjection, projectionPlace, payloadAt, directoryChecks, entryOf, inPayload, fromEntry, inDirectory, lookup};
 ghost use Rattle.geokeys.specs.Places.{placeIn, entryIn, Low};
 use fields::Verdict;
 use fields::numbers::number_at;
+use fields::refusals;
 use fields::slices;
 use fields::text;
 use lasfile::header;
 use lasfile::vlr;
 use lasfile::vlr::FRONT;
+use lasfile::vlr::RECORD_ID;
+use lasfile::vlr::USER_ID;
 
 // A key's value: a number, a double's 64 bits, a text's place in the file and its length; or a refusal's number.
 pub enum GeoKey {
@@ -23,6 +25,14 @@ pub enum GeoKey {
     Text(usize, usize),
     Refused(u64),
 }
+
+// The record IDs of the directory, and of the records that hold doubles and texts; a key's location is one of these
+// two, or 0.
+const DIRECTORY: u64 = 34735;
+
+const DOUBLES: u64 = 34736;
+
+const TEXTS: u64 = 34737;
 
 enum Found {
     At(usize),
@@ -34,8 +44,8 @@ fn is_projection(file: &[u8], id: u64, at: usize) -> bool
     requires { ⌜ at + 54 < 2 ^ 64 ⌝ }
     ensures { λ r. ⌜ r ≡ isProjection (now (file .entry)) id at ⌝ }
 {
-    let named = text::same_cut(slices::part_at(file, at + 2, 16), b"LASF_Projection");
-    named & (number_at(file, at + 18, 2) == id)
+    let named = text::same_cut(slices::part_at(file, at + USER_ID, 16), b"LASF_Projection");
+    named & (number_at(file, at + RECORD_ID, 2) == id)
 }
 
 // The first such record of a file that passes.
@@ -67,16 +77,16 @@ fn check_directory(directory: &[u8]) -> Verdict
     ensures { λ r. ⌜ r ≡ firstFailing (directoryChecks (now (directory .entry))) ⌝ }
 {
     if directory.len() < 8 {
-        return Verdict::Fails(41);
+        return Verdict::Fails(refusals::DIRECTORY);
     }
     if !slices::same_bytes(
         slices::part_at(directory, 0, 6),
         b"\x01\x00\x01\x00\x00\x00",
     ) {
-        return Verdict::Fails(41);
+        return Verdict::Fails(refusals::DIRECTORY);
     }
     if (directory.len() as u64) < 8 + 8 * number_at(directory, 6, 2) {
-        return Verdict::Fails(41);
+        return Verdict::Fails(refusals::DIRECTORY);
     }
     Verdict::Passes
 }
@@ -100,18 +110,18 @@ fn find_entry(directory: &[u8], key: u16) -> Found
 // The value of an entry in the payload of a parameter record, whose place is `at`: number 46, or a double, or a text.
 fn in_payload(entry: &[u8], at: usize, parameters: &[u8]) -> GeoKey
     requires { ⌜ at < 2 ^ 32 ⌝ }
-    ensures { λ r. ⌜ r ≡ either (eqb (locationOf (now (entry .entry))) 34736) (doubleIn (now (entry .entry)) (now (parameters .entry))) (textIn (now (entry .entry)) at (now (parameters .entry))) ⌝ }
+    ensures { λ r. ⌜ r ≡ inPayload (now (entry .entry)) at (now (parameters .entry)) ⌝ }
 {
     let count = number_at(entry, 4, 2) as usize;
     let offset = number_at(entry, 6, 2) as usize;
-    if number_at(entry, 2, 2) == 34736 {
+    if number_at(entry, 2, 2) == DOUBLES {
         if parameters.len() < 8 * offset + 8 {
-            return GeoKey::Refused(46);
+            return GeoKey::Refused(refusals::VALUE_PAST_END);
         }
         return GeoKey::Double(number_at(parameters, 8 * offset, 8));
     }
     if parameters.len() < offset + count {
-        return GeoKey::Refused(46);
+        return GeoKey::Refused(refusals::VALUE_PAST_END);
     }
     GeoKey::Text(at + FRONT + offset, count)
 }
@@ -123,11 +133,11 @@ fn from_entry(file: &[u8], entry: &[u8]) -> GeoKey
 {
     let location = number_at(entry, 2, 2);
     let count = number_at(entry, 4, 2);
-    if !((location == 0) | ((location == 34736) | (location == 34737))) {
-        return GeoKey::Refused(43);
+    if !((location == 0) | ((location == DOUBLES) | (location == TEXTS))) {
+        return GeoKey::Refused(refusals::LOCATION);
     }
-    if !((location == 34737) | (count == 1)) {
-        return GeoKey::Refused(44);
+    if !((location == TEXTS) | (count == 1)) {
+        return GeoKey::Refused(refusals::VALUE_COUNT);
     }
     if location == 0 {
         return GeoKey::Value(number_at(entry, 6, 2));
@@ -135,14 +145,14 @@ fn from_entry(file: &[u8], entry: &[u8]) -> GeoKey
     let found = find_projection(file, location);
     match found {
         Found::At(at) => in_payload(entry, at, payload_at(file, at)),
-        Found::Nothing => GeoKey::Refused(45),
+        Found::Nothing => GeoKey::Refused(refusals::NO_PARAMETERS),
     }
 }
 
 // Numbers 41 to 46, or the value of a key in a directory.
 fn from_directory(file: &[u8], directory: &[u8], key: u16) -> GeoKey
     requires { ⌜ fileVerdict (now file) ≡ Passes ⌝ }
-    ensures { λ r. ⌜ r ≡ answerIf (firstFailing (directoryChecks (now (directory .entry)))) (fromEntry (now (file .entry)) (entryOf (now (directory .entry)) key)) ⌝ }
+    ensures { λ r. ⌜ r ≡ inDirectory (now (file .entry)) (now (directory .entry)) key ⌝ }
 {
     let verdict = check_directory(directory);
     if let Verdict::Fails(n) = verdict {
@@ -151,7 +161,7 @@ fn from_directory(file: &[u8], directory: &[u8], key: u16) -> GeoKey
     let found = find_entry(directory, key);
     match found {
         Found::At(at) => from_entry(file, slices::part_at(directory, at, 8)),
-        Found::Nothing => GeoKey::Refused(42),
+        Found::Nothing => GeoKey::Refused(refusals::NO_KEY),
     }
 }
 
@@ -163,9 +173,9 @@ pub fn find(file: &[u8], key: u16) -> GeoKey
     if let Verdict::Fails(n) = verdict {
         return GeoKey::Refused(n);
     }
-    let found = find_projection(file, 34735);
+    let found = find_projection(file, DIRECTORY);
     match found {
         Found::At(at) => from_directory(file, payload_at(file, at), key),
-        Found::Nothing => GeoKey::Refused(40),
+        Found::Nothing => GeoKey::Refused(refusals::NO_DIRECTORY),
     }
 }

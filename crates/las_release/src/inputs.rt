@@ -3,16 +3,21 @@ ghost use mathlib.Core.Path.{_≡_};
 ghost use Rattle.fields.specs.Checks.{firstFailing};
 ghost use Rattle.las_release.specs.Inputs.{inputChecks};
 use fields::Verdict;
+use fields::refusals;
 
-// 51 for a file that was not opened or read to its end, 50 for a longer one than a file may be. The program's buffer holds one byte more than that.
-pub fn input_verdict(is_read: bool, length: usize) -> Verdict
+// A file that is read has at most so many bytes.
+const MOST_BYTES: usize = 32768;
+
+// 51 for a file that was not opened or read to its end, 50 for a longer one than a file may be. The program's buffer
+// holds one byte more than that.
+pub(crate) fn input_verdict(is_read: bool, length: usize) -> Verdict
     ensures { λ r. ⌜ r ≡ firstFailing (inputChecks «is_read» length) ⌝ }
 {
     if !is_read {
-        return Verdict::Fails(51);
+        return Verdict::Fails(refusals::INPUT_FAILED);
     }
-    if 32768 < length {
-        return Verdict::Fails(50);
+    if MOST_BYTES < length {
+        return Verdict::Fails(refusals::INPUT_TOO_LONG);
     }
     Verdict::Passes
 }

@@ -1,14 +1,17 @@
-// Releases what sheet.bin keeps of in.las to out.las, in the folder where it runs, and prints one line: what was released, or the number of the refusal.
-pub mod inputs;
+// Releases what sheet.bin keeps of in.las to out.las, in the folder where it runs, and prints one line: what was
+// released, or the number of the refusal.
+mod inputs;
 mod output;
 
 ghost use mathlib.Core.Path.{_≡_};
 ghost use lib.ListN.{length};
 use fields::Verdict;
+use fields::refusals;
 use fields::slices;
 use publicpart::Answer;
 
-// Reads until the end of the file or until buf is full, and answers how many bytes it read, or -1 where a read fails. A short read is not the end.
+// Reads until the end of the file or until buf is full, and answers how many bytes it read, or -1 where a read fails. A
+// short read is not the end.
 fn read_to_end(fd: i32, buf: &mut [u8]) -> isize
     requires { ⌜ length (now buf) ≡ 32769 ⌝ }
 {
@@ -53,10 +56,10 @@ fn run(file: &[u8], sheet: &[u8]) {
             if output::save(slices::part_at(&out, 0, length)) {
                 output::print_released(length as u64, points as u64, records as u64);
             } else {
-                output::print_refused(51);
+                output::print_refused(refusals::INPUT_FAILED);
             }
         }
-        Answer::Short(_) => output::print_refused(30),
+        Answer::Short(_) => output::print_refused(refusals::OUTPUT_TOO_SHORT),
         Answer::Refused(n) => output::print_refused(n),
     }
 }

@@ -11,7 +11,8 @@ fn write_and_close(fd: i32, bytes: &[u8]) -> bool {
     is_written && is_flushed && is_closed
 }
 
-// Writes out.las by way of a file beside it, so that out.las is whole or as it was. The part is made anew, so that no link is followed.
+// Writes out.las by way of a file beside it, so that out.las is whole or as it was. The part is made anew, so that no
+// link is followed.
 pub(crate) fn save(bytes: &[u8]) -> bool {
     let part = b"out.las.part";
     os::unlink(part);
@@ -28,7 +29,8 @@ pub(crate) fn save(bytes: &[u8]) -> bool {
     false
 }
 
-// Puts a text into the line, and answers where the next one starts. The longest line has 87 bytes, so the sum never wraps.
+// Puts a text into the line, and answers where the next one starts. The longest line has 87 bytes, so the sum never
+// wraps.
 fn put(line: &mut [u8; 96], at: usize, text: &[u8]) -> usize {
     copying::copy(text, line, at);
     std::num::wrapping_add_usize(at, text.len())

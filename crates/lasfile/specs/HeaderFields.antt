@@ -11,7 +11,7 @@ signature = 76 ∷ 65 ∷ 83 ∷ 70 ∷ []
 abbrev pub version : Bytes
 version = 1 ∷ 2 ∷ []
 
--- "The public header block, 227 bytes"; a file's header may be longer, and says its size
+-- the public header block has 227 bytes; a file's header may be longer, and says its size
 abbrev pub headerBlock : ℕ
 headerBlock = 227
 

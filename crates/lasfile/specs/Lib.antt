@@ -2,4 +2,3 @@ pub mod FileChecks
 pub mod Passed
 pub mod HeaderFields
 pub mod Records
-pub mod ReadBack

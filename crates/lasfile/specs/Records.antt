@@ -1,10 +1,11 @@
--- Variable length records (VLRs). `lw` is the width of a header's length field: 2 before the points, so that a header is 54 bytes.
+-- Variable length records (VLRs). `lw` is the width of a header's length field: 2 before the points, so that a header
+-- is 54 bytes.
 -- Assumes nothing.
-use Prim.Native.Nat.{ℕ, zero, suc, _+_}
+use Prim.Native.Nat.{ℕ, zero, suc, _+_, _^_, _<_}
 use mathlib.Core.List.{List, [], _∷_, map}
 use lib.ListN.{length, drop}
 use Rattle.fields.specs.Bytes.{Bytes, part, num, bytesOf, zeros, join}
-use Rattle.fields.specs.Text.{cut, padded}
+use Rattle.fields.specs.Text.{cut, padded, Held}
 
 -- what a record says: its reserved bytes and text tails are outside it
 pub record Record : Type 0 where
@@ -62,7 +63,13 @@ walk lw n at s = map (recordAt lw s) (places lw n at s)
 
 abbrev pub recordFields : ℕ → Record → List Bytes
 recordFields lw r =
-    zeros 2 ∷ padded 16 (r .user) ∷ bytesOf 2 (r .id) ∷ bytesOf lw (length (r .payload)) ∷ padded 32 (r .description) ∷ r .payload ∷ []
+    zeros 2
+    ∷ padded 16 (r .user)
+    ∷ bytesOf 2 (r .id)
+    ∷ bytesOf lw (length (r .payload))
+    ∷ padded 32 (r .description)
+    ∷ r .payload
+    ∷ []
 
 unfoldable pub recordBytes : ℕ → Record → Bytes
 recordBytes lw r = join (recordFields lw r)
@@ -72,3 +79,10 @@ recordLen lw r = frontSize lw + length (r .payload)
 
 unfoldable pub recordsBytes : ℕ → List Record → Bytes
 recordsBytes lw rs = join (map (recordBytes lw) rs)
+
+-- a record that can be written and read back
+pub record SoundRecord (lw : ℕ) (r : Record) : Type 0 where
+  pub user : Held 16 (r .user)
+  pub id : r .id < 256 ^ 2
+  pub description : Held 32 (r .description)
+  pub payload : length (r .payload) < 256 ^ lw

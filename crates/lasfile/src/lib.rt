@@ -8,6 +8,7 @@ ghost use Rattle.fields.specs.Checks.{firstFailing};
 ghost use Rattle.lasfile.specs.FileChecks.{fileChecks, fileVerdict};
 use crate::header::HEADER_BLOCK;
 use fields::Verdict;
+use fields::refusals;
 use fields::slices;
 use points::layouts;
 
@@ -17,20 +18,20 @@ fn check_header(file: &[u8]) -> Verdict
 {
     let length = file.len();
     if length < HEADER_BLOCK {
-        return Verdict::Fails(1);
+        return Verdict::Fails(refusals::FILE_TOO_SHORT);
     }
     if !slices::same_bytes(slices::part_at(file, 0, 4), b"LASF") {
-        return Verdict::Fails(2);
+        return Verdict::Fails(refusals::SIGNATURE);
     }
     if !slices::same_bytes(slices::part_at(file, 24, 2), b"\x01\x02") {
-        return Verdict::Fails(3);
+        return Verdict::Fails(refusals::VERSION);
     }
     let size = header::header_size(file);
     if size < HEADER_BLOCK {
-        return Verdict::Fails(4);
+        return Verdict::Fails(refusals::HEADER_SIZE);
     }
     if length < size {
-        return Verdict::Fails(4);
+        return Verdict::Fails(refusals::HEADER_SIZE);
     }
     check_points(file)
 }
@@ -41,19 +42,19 @@ fn check_points(file: &[u8]) -> Verdict
 {
     let format = header::format(file);
     if 3 < format {
-        return Verdict::Fails(5);
+        return Verdict::Fails(refusals::POINT_FORMAT);
     }
     let layout = layouts::layout_of(format);
     let size = layout.size;
     if header::record_length(file) < size {
-        return Verdict::Fails(6);
+        return Verdict::Fails(refusals::RECORD_LENGTH);
     }
     let offset = header::point_offset(file);
     if offset < header::header_size(file) {
-        return Verdict::Fails(7);
+        return Verdict::Fails(refusals::POINT_OFFSET);
     }
     if file.len() < offset {
-        return Verdict::Fails(7);
+        return Verdict::Fails(refusals::POINT_OFFSET);
     }
     Verdict::Passes
 }
@@ -66,15 +67,15 @@ fn check_contents(file: &[u8]) -> Verdict
     let offset = header::point_offset(file);
     let count = header::record_count(file);
     if !vlr::records_fit(file, count, size, offset) {
-        return Verdict::Fails(8);
+        return Verdict::Fails(refusals::RECORDS_PAST_OFFSET);
     }
     let length = header::record_length(file);
     let points = header::point_count(file);
     if file.len() < offset + points * length {
-        return Verdict::Fails(9);
+        return Verdict::Fails(refusals::POINTS_PAST_END);
     }
     if !scaling::Scaling::read(file).is_good() {
-        return Verdict::Fails(10);
+        return Verdict::Fails(refusals::SCALING);
     }
     Verdict::Passes
 }

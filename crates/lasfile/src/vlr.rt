@@ -5,8 +5,16 @@ ghost use lib.Dec.{leb};
 ghost use lib.ListN.{drop};
 ghost use Rattle.lasfile.specs.Records.{payloadLength, sizeOf, walkEnd};
 
-// The bytes of a record's header.
+// The bytes of a record's header, and the places of its fields behind the two reserved bytes.
 pub const FRONT: usize = 54;
+
+pub const USER_ID: usize = 2;
+
+pub const RECORD_ID: usize = 18;
+
+pub const PAYLOAD_LENGTH: usize = 20;
+
+pub const DESCRIPTION: usize = 22;
 
 // The payload length of the record at a place. Bytes past the end count as 0.
 pub fn payload_length_at(file: &[u8], at: usize) -> usize
@@ -15,7 +23,7 @@ pub fn payload_length_at(file: &[u8], at: usize) -> usize
     if file.len() <= at {
         return 0;
     }
-    fields::numbers::number_at(file, at + 20, 2) as usize
+    fields::numbers::number_at(file, at + PAYLOAD_LENGTH, 2) as usize
 }
 
 // The size of the record at a place: its header and its payload.
@@ -25,9 +33,9 @@ pub fn size_at(file: &[u8], at: usize) -> usize
     FRONT + payload_length_at(file, at)
 }
 
-// Whether `count` records from a place on end by `end`. It stops at the first that does not, so that a damaged count costs no more
-// steps than there are headers before `end`.
-pub fn records_fit(file: &[u8], count: usize, from: usize, end: usize) -> bool
+// Whether `count` records from a place on end by `end`. It stops at the first that does not, so that a damaged count
+// costs no more steps than there are headers before `end`.
+pub(crate) fn records_fit(file: &[u8], count: usize, from: usize, end: usize) -> bool
     ensures { λ r. ⌜ r ≡ leb (walkEnd 2 count from (now (file .entry))) end ⌝ }
 {
     let mut at = from;

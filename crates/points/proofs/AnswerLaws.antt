@@ -11,6 +11,7 @@ use Rattle.fields.specs.Bytes.{Bytes}
 use Rattle.fields.specs.Checks.{fails, firstFailing}
 use Rattle.fields.proofs.CheckLaws.{gives, goes-on, unclear}
 use Rattle.points.specs.Formats.{formatSize, timePlace, colourPlace}
+use Rattle.points.specs.Raw.{classOf, returnOf}
 use Rattle.points.specs.declared.Point.{Point}
 use Rattle.points.specs.declared.Decoded.the-variants.{Fields, Refused}
 use Rattle.points.specs.Points.{shape, numberAt, decodeChecks, fieldsIf, decoded, pointOf}
@@ -67,7 +68,7 @@ pub with-others : (f : ℕ) (p : Bytes) (q : Point) (time red green blue : ℕ) 
       blue = blue;
     })
     (pointOf f p)
-unfolding pointOf
+unfolding pointOf returnOf classOf
 with-others f p q time red green blue e t r g b = rw (e, t, r, g, b)
 
 pub refused : (f len : ℕ) (p : Bytes) (r : Bool) → r ≡ not (fails (shape f len (length p))) → not r ≡ true → decoded f len p ≡ Refused 12

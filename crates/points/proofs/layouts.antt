@@ -1,2 +1,1 @@
-mod PartsLaws
 pub mod LayoutLaws

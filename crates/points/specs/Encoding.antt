@@ -101,3 +101,9 @@ pub record InRange (q : Point) : Type 0 where
 unfoldable pub storedAt : Place → Bytes → Bytes → Bytes
 storedAt Absent b room = room
 storedAt (At at) b room = sets room at b
+
+-- GPS time and then colour, those that format f has
+abbrev pub withOthers : ℕ → Point → Bytes → Bytes
+withOthers f q room =
+    storedAt (colourPlace f) (join (colourFields (colourPlace f) q))
+    (storedAt (timePlace f) (join (timeFields (timePlace f) q)) room)

@@ -1,11 +1,11 @@
 -- Point records: the fields of a record's bytes.
 -- Assumes nothing.
-use Prim.Native.Nat.{ℕ, _+_, _/_, _%_, _^_}
+use Prim.Native.Nat.{ℕ, _+_}
 use mathlib.Core.Bool.{Bool, true, false}
 use mathlib.Core.List.{List, [], _∷_}
 use lib.ListN.{length, getD}
 use lib.Dec.{eqb}
-use mir.Syntax.{w8, w32}
+use mir.Syntax.{w8}
 use mir.Val.{toZ}
 use Rattle.fields.specs.Bytes.{Bytes, part, num}
 use Rattle.fields.specs.Checks.{Test, Check, _below_, not-so, _or_, firstFailing}
@@ -13,16 +13,13 @@ use Rattle.fields.specs.declared.Verdict.{Verdict}
 use Rattle.fields.specs.declared.Verdict.the-variants.{Passes, Fails}
 use Rattle.points.specs.declared.formats.Place.{Place}
 use Rattle.points.specs.declared.formats.Place.the-variants.{At, Absent}
+use Rattle.points.specs.Raw.{bits, classOf, returnOf, stored}
 use Rattle.points.specs.Formats.{formatSize, timePlace, colourPlace}
 use Rattle.points.specs.declared.Point.{Point}
 use Rattle.points.specs.declared.Decoded.{Decoded}
 use Rattle.points.specs.declared.Decoded.the-variants.{Fields, Refused}
 
 -- ---- fields out of bytes
-
--- n bits of a byte, from bit `low` on
-unfoldable pub bits : ℕ → ℕ → ℕ → ℕ
-bits low n b = b / 2 ^ low % 2 ^ n
 
 -- a flag as a number
 unfoldable pub bit : Bool → ℕ
@@ -38,15 +35,15 @@ numberAt width (At at) shift p = num (part (at + shift) width p)
 unfoldable pub pointOf : ℕ → Bytes → Point
 pointOf f p =
     record {
-      x = toZ w32 (num (part 0 4 p));
-      y = toZ w32 (num (part 4 4 p));
-      z = toZ w32 (num (part 8 4 p));
+      x = stored 0 p;
+      y = stored 1 p;
+      z = stored 2 p;
       intensity = num (part 12 2 p);
-      «return_number» = bits 0 3 (getD p 14 0);
+      «return_number» = returnOf f p;
       returns = bits 3 3 (getD p 14 0);
       «scan_direction» = eqb (bits 6 1 (getD p 14 0)) 1;
       edge = eqb (bits 7 1 (getD p 14 0)) 1;
-      «class_byte» = getD p 15 0;
+      «class_byte» = classOf f p;
       «scan_angle» = toZ w8 (getD p 16 0);
       «user_data» = getD p 17 0;
       «source_id» = num (part 18 2 p);
@@ -56,7 +53,8 @@ pointOf f p =
       blue = numberAt 2 (colourPlace f) 4 p;
     }
 
--- what 12 is given for: the n bytes differ from the record length, that length is below the format's size, or the format is above 3
+-- what 12 is given for: the n bytes differ from the record length, that length is below the format's size, or the
+-- format is above 3
 unfoldable pub shape : ℕ → ℕ → ℕ → Test
 shape f len n = not-so (eqb n len) or (len below formatSize f or 3 below f)
 

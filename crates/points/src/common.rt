@@ -8,7 +8,7 @@ ghost use Rattle.points.specs.Shared.{flagByte, sharedFields};
 use crate::Point;
 
 // The 32 bits of a number in two's complement.
-fn bits_of(z: i32) -> u64
+fn signed_bits(z: i32) -> u64
     ensures { λ r. ⌜ r ≡ ofZ w32 z ⌝ }
 {
     ((z as i64 + 4294967296) as u64) % 4294967296
@@ -25,13 +25,13 @@ fn flag_byte(point: Point) -> u64
 }
 
 // Writes the fields that all formats share.
-pub fn put_shared(room: &mut [u8], point: Point)
+pub(crate) fn put_shared(room: &mut [u8], point: Point)
     ensures { λ _. ⌜ now (room .exit) ≡ sets (now (room .entry)) 0 (join (sharedFields point)) ⌝ }
 {
-    let angle = bits_of(point.scan_angle as i32);
-    fields::numbers::put_number(room, 0, 4, bits_of(point.x));
-    fields::numbers::put_number(room, 4, 4, bits_of(point.y));
-    fields::numbers::put_number(room, 8, 4, bits_of(point.z));
+    let angle = signed_bits(point.scan_angle as i32);
+    fields::numbers::put_number(room, 0, 4, signed_bits(point.x));
+    fields::numbers::put_number(room, 4, 4, signed_bits(point.y));
+    fields::numbers::put_number(room, 8, 4, signed_bits(point.z));
     fields::numbers::put_number(room, 12, 2, point.intensity as u64);
     fields::numbers::put_number(room, 14, 1, flag_byte(point));
     fields::numbers::put_number(room, 15, 1, point.class_byte as u64);

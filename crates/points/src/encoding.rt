@@ -2,13 +2,13 @@
 ghost use mathlib.Core.Path.{_≡_};
 ghost use Rattle.fields.specs.Bytes.{bytesOf, join};
 ghost use Rattle.fields.specs.Checks.{fails};
-ghost use Rattle.points.specs.Formats.{timePlace, colourPlace};
-ghost use Rattle.points.specs.Encoding.{timeFields, colours, colourFields, large, storedAt, encoded};
+ghost use Rattle.points.specs.Encoding.{colours, large, storedAt, withOthers, encoded};
 use crate::Point;
 use crate::common;
 use crate::formats::Place;
 use crate::layouts;
 use fields::Verdict;
+use fields::refusals;
 
 // Red, green and blue as one number of 6 bytes.
 fn colour_of(point: Point) -> u64
@@ -28,7 +28,7 @@ fn put_at(room: &mut [u8], place: Place, width: usize, n: u64)
 
 // Writes GPS time and colour, those that the format has.
 fn put_others(room: &mut [u8], format: u8, point: Point)
-    ensures { λ _. ⌜ now (room .exit) ≡ storedAt (colourPlace format) (join (colourFields (colourPlace format) point)) (storedAt (timePlace format) (join (timeFields (timePlace format) point)) (now (room .entry))) ⌝ }
+    ensures { λ _. ⌜ now (room .exit) ≡ withOthers format point (now (room .entry)) ⌝ }
 {
     let layout = layouts::layout_of(format);
     let time = layout.time;
@@ -49,10 +49,10 @@ pub fn encode(format: u8, record_length: u16, point: Point, room: &mut [u8]) -> 
     ensures { λ r. ⌜ (r, now (room .exit)) ≡ encoded format «record_length» point (now (room .entry)) ⌝ }
 {
     if !crate::has_shape(format, record_length, room.len()) {
-        return Verdict::Fails(12);
+        return Verdict::Fails(refusals::POINT_SHAPE);
     }
     if is_large(point) {
-        return Verdict::Fails(13);
+        return Verdict::Fails(refusals::FIELD_TOO_LARGE);
     }
     common::put_shared(room, point);
     put_others(room, format, point);

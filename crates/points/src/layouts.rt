@@ -1,6 +1,6 @@
 // The layout of a point format by its number.
 ghost use mathlib.Core.Path.{_≡_};
-ghost use Rattle.points.specs.Layouts.{layoutOf};
+ghost use Rattle.points.specs.Formats.{layoutOf};
 use crate::formats::Place;
 use crate::formats::format0::Format0;
 use crate::formats::format1::Format1;

@@ -1,8 +1,9 @@
 // Point records: the formats, decoding and encoding.
-pub mod common;
+mod common;
 pub mod encoding;
 pub mod formats;
 pub mod layouts;
+pub mod raw;
 
 ghost use mathlib.Core.Path.{_≡_};
 ghost use Prim.Native.Nat.{_<_, _^_, min};
@@ -11,6 +12,7 @@ ghost use Rattle.fields.specs.Bytes.{num, part};
 ghost use Rattle.fields.specs.Checks.{fails};
 ghost use Rattle.points.specs.Points.{numberAt, shape, pointOf, decoded};
 use crate::formats::Place;
+use fields::refusals;
 use fields::signed;
 
 // A point's fields. GPS time is its 64 bits.
@@ -71,17 +73,18 @@ fn u16_in(s: &[u8], place: Place, shift: usize) -> u16
 fn shared_of(s: &[u8]) -> Point
     ensures { λ r. ⌜ r ≡ pointOf 0 (now (s .entry)) ⌝ }
 {
+    let stored = raw::stored_of(s);
     let flags = fields::numbers::u8_at(s, 14);
     Point {
-        x: signed::i32_at(s, 0),
-        y: signed::i32_at(s, 4),
-        z: signed::i32_at(s, 8),
+        x: stored.x,
+        y: stored.y,
+        z: stored.z,
         intensity: u16_at(s, 12),
-        return_number: flags % 8,
+        return_number: raw::return_of(0, s),
         returns: flags / 8 % 8,
         scan_direction: flags / 64 % 2 == 1,
         edge: flags / 128 % 2 == 1,
-        class_byte: fields::numbers::u8_at(s, 15),
+        class_byte: raw::class_of(0, s),
         scan_angle: signed::i8_at(s, 16),
         user_data: fields::numbers::u8_at(s, 17),
         source_id: u16_at(s, 18),
@@ -93,7 +96,7 @@ fn shared_of(s: &[u8]) -> Point
 }
 
 // Whether n bytes are the record length, and that length and the format can be.
-pub fn has_shape(format: u8, record_length: u16, n: usize) -> bool
+pub(crate) fn has_shape(format: u8, record_length: u16, n: usize) -> bool
     ensures { λ r. ⌜ r ≡ not (fails (shape format «record_length» n)) ⌝ }
 {
     let layout = layouts::layout_of(format);
@@ -107,7 +110,7 @@ pub fn decode(format: u8, record_length: u16, bytes: &[u8]) -> Decoded
     ensures { λ r. ⌜ r ≡ decoded format «record_length» (now (bytes .entry)) ⌝ }
 {
     if !has_shape(format, record_length, bytes.len()) {
-        return Decoded::Refused(12);
+        return Decoded::Refused(refusals::POINT_SHAPE);
     }
     let layout = layouts::layout_of(format);
     let time = layout.time;

@@ -1,4 +1,5 @@
--- What is written of a sound public part passes the file checks and has it for its contents, with zeros behind it or without.
+-- What is written of a sound public part passes the file checks and has it for its contents, with zeros behind it or
+-- without.
 -- Assumes nothing.
 use mathlib.Core.Path.{_≡_, _∙_}
 use Prim.Native.Nat.{ℕ, _+_, _*_, _≤_, _<_}
@@ -7,14 +8,13 @@ use native.Mathlib.Omega.{arith}
 use lib.ListN.{length, getD, drop, length-append, length-replicate}
 use lib.Seq.{drop-at}
 use lib.Dec.{lit<}
-use Rattle.fields.specs.Bytes.{Bytes, part, num, zeros, join, start, pieces}
+use Rattle.fields.specs.Bytes.{Bytes, part, num, zeros, join, start, pieces, numbersBytes}
 use Rattle.fields.specs.Text.{cut}
 use Rattle.fields.proofs.ByteLaws.{num-bytesOf, pieces-back, length-join-pieces}
 use Rattle.lasfile.specs.Records.{walk, recordsBytes}
 use Rattle.lasfile.proofs.vlr.RecordLaws.{walk-back, walkEnd-back, length-recordsBytes}
 use Rattle.scaling.specs.Scaling.{scalingIn}
 use Rattle.scaling.proofs.ScalingLaws.{scaling-in}
-use Rattle.fields.specs.NumberRuns.{numbersBytes}
 use Rattle.lasfile.specs.HeaderFields.{headerBlock, headerSize, pointOffset, recordCount, format, recordLength, pointCount}
 use Rattle.lasfile.proofs.header.FieldLaws.{size-written, offset-written, records-written, format-written, length-written, count-written}
 use Rattle.lasfile.specs.FileChecks.{recordsEnd}

@@ -12,7 +12,8 @@ use lib.ListN.{length, getD}
 use Rattle.fields.specs.Lists.{kept, consIf, total}
 use Rattle.fields.specs.Bytes.{Bytes}
 use Rattle.points.specs.Points.{bit}
-use Rattle.publicpart.specs.Bounds.{upFrom, returnOf, bins}
+use Rattle.publicpart.specs.Bounds.{upFrom, bins}
+use Rattle.points.specs.Raw.{returnOf}
 
 -- ---- a count that goes up by one where a test holds
 

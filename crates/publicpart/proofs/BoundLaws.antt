@@ -4,12 +4,12 @@ use mathlib.Core.Path.{_≡_, refl, ap}
 use Prim.Native.Nat.{ℕ, zero, suc}
 use mathlib.Core.List.{List, [], _∷_, map}
 use lib.ListN.{length, length-map}
-use Rattle.fields.specs.Bytes.{Bytes, join, bytesOf, zeros}
-use Rattle.fields.specs.NumberRuns.{numbersBytes}
+use Rattle.fields.specs.Bytes.{Bytes, join, bytesOf, zeros, numbersBytes}
 use Rattle.scaling.specs.Coordinate.{coordinateBits}
 use Rattle.scaling.specs.Scaling.{boundsOf}
 use Rattle.scaling.specs.declared.Scaling.{Scaling}
-use Rattle.publicpart.specs.Bounds.{upFrom, bins, stored, largest, smallest, extremesOf, boundNumbers, bounds}
+use Rattle.publicpart.specs.Bounds.{upFrom, bins, largest, smallest, extremesOf, boundNumbers, bounds}
+use Rattle.points.specs.Raw.{stored}
 
 length-upFrom : (from n : ℕ) → length (upFrom from n) ≡ n
 unfolding upFrom

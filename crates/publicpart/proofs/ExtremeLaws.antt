@@ -13,7 +13,8 @@ use mir.Syntax.{w32}
 use mir.Val.{toZ}
 use Rattle.fields.specs.Lists.{All}
 use Rattle.fields.specs.Bytes.{Bytes, part, num}
-use Rattle.publicpart.specs.Bounds.{stored, largest, smallest}
+use Rattle.publicpart.specs.Bounds.{largest, smallest}
+use Rattle.points.specs.Raw.{stored}
 
 -- ---- the order of whole numbers
 

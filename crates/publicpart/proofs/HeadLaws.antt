@@ -5,10 +5,9 @@ use Prim.Native.Nat.{ℕ, _*_, _≤_, _<_}
 use mathlib.Core.List.{List, [], _++_}
 use lib.ListN.{length, getD}
 use Rattle.fields.specs.Lists.{total}
-use Rattle.fields.specs.Bytes.{Bytes, part, join, start, Fit}
+use Rattle.fields.specs.Bytes.{Bytes, part, join, start, Fit, numbersBytes}
 use Rattle.fields.proofs.ByteLaws.{length-bytesOf, field-back, length-join}
 use Rattle.fields.proofs.TextLaws.{length-padded}
-use Rattle.fields.specs.NumberRuns.{numbersBytes}
 use Rattle.fields.proofs.arrays.NumberLaws.{length-numbers}
 use Rattle.lasfile.specs.HeaderFields.{headerBlock}
 use Rattle.publicpart.specs.Head.{Head, headWidths, headFields}

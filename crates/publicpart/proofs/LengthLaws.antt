@@ -1,4 +1,5 @@
--- A released file is no longer than its source: what a sheet leaves is no longer, and the contents of a file fit into it.
+-- A released file is no longer than its source: what a sheet leaves is no longer, and the contents of a file fit into
+-- it.
 -- Assumes nothing.
 use Prim.Native.Nat.{_≤_}
 use native.Mathlib.Nat.{mul-le-mul-right}

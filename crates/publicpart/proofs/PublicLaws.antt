@@ -1,4 +1,5 @@
--- Laws of the public part: the carried fields by their places, what a sheet leaves of a file's records and points, and sheets one after the other.
+-- Laws of the public part: the carried fields by their places, what a sheet leaves of a file's records and points, and
+-- sheets one after the other.
 -- Assumes nothing.
 use mathlib.Core.Path.{_≡_, refl, ap, _∙_}
 use lib.ListN.{drop}

@@ -1,4 +1,5 @@
--- A sound public part: it can be written and read back. The contents of a file that passes are sound, and so is what a sheet leaves of something sound.
+-- A sound public part: it can be written and read back. The contents of a file that passes are sound, and so is what a
+-- sheet leaves of something sound.
 -- Assumes nothing.
 use mathlib.Core.Path.{_≡_}
 use Prim.Native.Nat.{_^_, _≤_, _<_}
@@ -12,8 +13,7 @@ use Rattle.fields.proofs.ByteLaws.{num-part-lt, length-part, length-pieces, pie
 use Rattle.fields.specs.Text.{Held}
 use Rattle.fields.proofs.TextLaws.{held}
 use Rattle.points.specs.Formats.{formatSize}
-use Rattle.lasfile.specs.Records.{walkEnd, recordLen}
-use Rattle.lasfile.specs.ReadBack.{SoundRecord}
+use Rattle.lasfile.specs.Records.{walkEnd, recordLen, SoundRecord}
 use Rattle.lasfile.proofs.vlr.RecordLaws.{walk-sound, walk-total, length-walk}
 use Rattle.scaling.specs.Scaling.{scalingIn, goodScaling}
 use Rattle.scaling.proofs.ScalingLaws.{scaling-in}

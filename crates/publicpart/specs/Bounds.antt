@@ -1,17 +1,15 @@
 -- Counts by return number, and bounds, over points.
 -- Assumes nothing.
-use Prim.Native.Nat.{ℕ, zero, suc, _*_}
+use Prim.Native.Nat.{ℕ, zero, suc}
 use mathlib.Core.Bool.{cond}
 use mathlib.Core.List.{List, [], _∷_, map}
-use lib.ListN.{length, getD}
+use lib.ListN.{length}
 use lib.Dec.{eqb}
 use lib.IntN.{ℤ}
 use lib.Signed.{ltZ}
-use mir.Syntax.{w32}
-use mir.Val.{toZ}
 use Rattle.fields.specs.Lists.{kept}
-use Rattle.fields.specs.Bytes.{Bytes, part, num}
-use Rattle.points.specs.Points.{bits}
+use Rattle.fields.specs.Bytes.{Bytes}
+use Rattle.points.specs.Raw.{returnOf, stored}
 use Rattle.scaling.specs.Scaling.{boundsOf}
 use Rattle.scaling.specs.declared.Scaling.{Scaling}
 use Rattle.scaling.specs.declared.Extremes.{Extremes}
@@ -24,19 +22,11 @@ unfoldable pub upFrom : ℕ → ℕ → List ℕ
 upFrom from zero = []
 upFrom from (suc n) = from ∷ upFrom (suc from) n
 
--- a point's return number, by its format; all four have it in one place
-unfoldable pub returnOf : ℕ → Bytes → ℕ
-returnOf f p = bits 0 3 (getD p 14 0)
-
 -- bin r of the n bins counts return number r among points of a format; other numbers are in no bin
 unfoldable pub bins : ℕ → ℕ → List Bytes → List ℕ
 bins n f ps = map (λ r. length (kept (λ p. eqb (returnOf f p) r) ps)) (upFrom 1 n)
 
 -- ---- bounds
-
--- a point's stored X (axis 0), Y (1) or Z (2), in two's complement
-unfoldable pub stored : ℕ → Bytes → ℤ
-stored axis p = toZ w32 (num (part (4 * axis) 4 p))
 
 unfoldable pub largest : ℤ → List ℤ → ℤ
 largest z [] = z

@@ -2,9 +2,8 @@
 -- Assumes nothing.
 use Prim.Native.Nat.{ℕ}
 use mathlib.Core.List.{List, [], _∷_}
-use Rattle.fields.specs.Bytes.{Bytes, bytesOf}
+use Rattle.fields.specs.Bytes.{Bytes, bytesOf, numbersBytes}
 use Rattle.fields.specs.Text.{padded}
-use Rattle.fields.specs.NumberRuns.{numbersBytes}
 use Rattle.lasfile.specs.HeaderFields.{signature, version, headerBlock}
 use Rattle.publicpart.specs.Public.{Carried}
 
@@ -17,8 +16,8 @@ pub record Head : Type 0 where
   pub bins : List ℕ
   pub bounds : List ℕ
 
--- signature, bytes 4 to 23, version, two texts, day, year, header size, offset to points, number of VLRs, format, record length,
--- number of points, points by return, scales and offsets, bounds
+-- signature, bytes 4 to 23, version, two texts, day, year, header size, offset to points, number of VLRs, format,
+-- record length, number of points, points by return, scales and offsets, bounds
 abbrev pub headWidths : List ℕ
 headWidths = 4 ∷ 20 ∷ 2 ∷ 32 ∷ 32 ∷ 2 ∷ 2 ∷ 2 ∷ 4 ∷ 4 ∷ 1 ∷ 2 ∷ 4 ∷ 20 ∷ 48 ∷ 48 ∷ []
 

@@ -1,4 +1,4 @@
--- What a file holds, and what a sheet leaves of it: document 01's public part.
+-- What a file holds, and what a sheet leaves of it: the public part (docs/SPECIFICATION.md).
 -- Assumes nothing.
 use Prim.Native.Nat.{ℕ}
 use mathlib.Core.Bool.{Bool}
@@ -11,7 +11,8 @@ use Rattle.lasfile.specs.Records.{Record, walk}
 use Rattle.lasfile.specs.HeaderFields.{headerSize, pointOffset, recordCount, format, recordLength, pointCount}
 use Rattle.sheet.specs.Keeping.{keepsRecord, keepsPoint}
 
--- document 01's "carried header fields": bytes 4 to 23, both cut texts, day, year, format, record length, scales and offsets by their bits
+-- the "carried" header fields: bytes 4 to 23, both cut texts, day, year, format, record length, scales and offsets by
+-- their bits
 pub record Carried : Type 0 where
   pub ids : Bytes
   pub system : Bytes
@@ -62,6 +63,6 @@ restrict sheet p =
       points = kept (keepsPoint sheet (p .carried .format)) (p .points);
     }
 
--- document 01's "public part" of a file under a sheet
+-- the "public part" of a file under a sheet
 unfoldable pub publicOf : Bytes → Bytes → Public
 publicOf sheet s = restrict sheet (contents s)

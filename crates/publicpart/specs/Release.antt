@@ -30,7 +30,10 @@ shortOr false n out later = later
 
 -- the output of n bytes starts with the released file, and its rest is zeroed
 unfoldable pub accepted : Public → ℕ → Outcome
-accepted p n = (Released (length (render p)) (length (p .points)) (length (p .records)), render p ++ zeros (n - length (render p)))
+accepted p n = (
+  Released (length (render p)) (length (p .points)) (length (p .records)),
+  render p ++ zeros (n - length (render p)),
+)
 
 unfoldable pub roomOr : Public → Bytes → Outcome
 roomOr p out = shortOr (ltb (length out) (length (render p))) (length (render p)) out (accepted p (length out))

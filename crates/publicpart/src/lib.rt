@@ -1,4 +1,5 @@
-// The public part of a file, what a sheet leaves of it, and the released file. There is no code here but the type of a release's answer: the definitions stand in specs/.
+// The public part of a file, what a sheet leaves of it, and the released file. There is no code here but the type of a
+// release's answer: the definitions stand in specs/.
 
 // What a release answers.
 pub enum Answer {

@@ -11,7 +11,7 @@ use Rattle.lasfile.specs.HeaderFields.{headerSize, pointOffset, recordCount, fo
 use Rattle.lasfile.specs.FileChecks.{fileVerdict}
 use Rattle.reader.specs.declared.header.Identity.{Identity}
 use Rattle.reader.specs.declared.header.Creation.{Creation}
-use Rattle.reader.specs.declared.header.Layout.{Layout}
+use Rattle.reader.specs.declared.header.FileLayout.{FileLayout}
 use Rattle.reader.specs.declared.header.ByReturn.{ByReturn}
 use Rattle.reader.specs.declared.header.Header.{Header}
 use Rattle.reader.specs.declared.header.HeaderRead.{HeaderRead}
@@ -39,8 +39,8 @@ creationOf s =
       year = num (part 92 2 s);
     }
 
-unfoldable pub layoutOf : Bytes → Layout
-layoutOf s =
+unfoldable pub fileLayoutOf : Bytes → FileLayout
+fileLayoutOf s =
     record {
       «header_size» = headerSize s;
       «point_offset» = pointOffset s;
@@ -77,16 +77,16 @@ headerOf s =
     record {
       identity = identityOf s;
       creation = creationOf s;
-      layout = layoutOf s;
+      layout = fileLayoutOf s;
       «by_return» = byReturnOf s;
       scaling = scalingOf s;
       bounds = statedBounds s;
     }
 
-unfoldable pub fieldsIf : Verdict → Header → HeaderRead
-fieldsIf Passes h = Fields h
-fieldsIf (Fails n) h = Refused n
+unfoldable pub headerIf : Verdict → Header → HeaderRead
+headerIf Passes h = Fields h
+headerIf (Fails n) h = Refused n
 
 -- what reading a header answers
 unfoldable pub headerRead : Bytes → HeaderRead
-headerRead s = fieldsIf (fileVerdict s) (headerOf s)
+headerRead s = headerIf (fileVerdict s) (headerOf s)

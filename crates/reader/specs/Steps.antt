@@ -19,8 +19,12 @@ use Rattle.reader.specs.declared.cursor.Step.the-variants.{Record, Refus
 
 -- index not below the number of VLRs, position below the header size, or a record there would run past the point offset
 abbrev pub stepChecks : Bytes → ℕ → ℕ → List Check
-stepChecks s index position =
-    (18, not-so (ltb index (recordCount s)) or (position below headerSize s or pointOffset s below position + sizeOf 2 (drop position s))) ∷ []
+stepChecks s index position = (
+  18,
+  not-so (ltb index (recordCount s))
+      or (position below headerSize s or pointOffset s below position + sizeOf 2 (drop position s)),
+)
+    ∷ []
 
 -- where the parts of the record at a place lie: cut texts, record ID, payload
 unfoldable pub recordPlaces : Bytes → ℕ → RecordPlaces
@@ -46,7 +50,8 @@ recordIf (Fails n) r c = Refused n
 -- it checks the file, then 18, and answers the record there
 unfoldable pub stepOf : Bytes → ℕ → ℕ → Step
 stepOf s index position =
-    recordIf (then (fileVerdict s) (firstFailing (stepChecks s index position))) (recordPlaces s position) (nextCursor s index position)
+    recordIf (then (fileVerdict s) (firstFailing (stepChecks s index position)))
+    (recordPlaces s position) (nextCursor s index position)
 
 -- ---- stepping on until a refusal
 

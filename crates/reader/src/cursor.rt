@@ -3,12 +3,17 @@ ghost use mathlib.Core.Path.{_≡_};
 ghost use Prim.Native.Nat.{_+_, _<_, _^_};
 ghost use Rattle.reader.specs.Steps.{recordPlaces, stepOf};
 use fields::Verdict;
+use fields::numbers::fits_in;
 use fields::numbers::number_at;
+use fields::refusals;
 use fields::slices;
 use fields::text;
 use lasfile::header;
 use lasfile::vlr;
+use lasfile::vlr::DESCRIPTION;
 use lasfile::vlr::FRONT;
+use lasfile::vlr::RECORD_ID;
+use lasfile::vlr::USER_ID;
 
 // Where the parts of a record lie in the file. The texts' lengths are those of their cuts.
 pub struct RecordPlaces {
@@ -21,7 +26,8 @@ pub struct RecordPlaces {
     pub payload_length: usize,
 }
 
-// An index among the records, and a position in the file: first 0 and the header size. The two need not belong together.
+// An index among the records, and a position in the file: first 0 and the header size. The two need not belong
+// together.
 pub struct VlrCursor {
     pub index: usize,
     pub position: usize,
@@ -37,11 +43,11 @@ fn places_at(file: &[u8], at: usize) -> RecordPlaces
     ensures { λ r. ⌜ r ≡ recordPlaces (now (file .entry)) at ⌝ }
 {
     RecordPlaces {
-        user_place: at + 2,
-        user_length: text::cut_length(slices::part_at(file, at + 2, 16)),
-        record_id: number_at(file, at + 18, 2),
-        description_place: at + 22,
-        description_length: text::cut_length(slices::part_at(file, at + 22, 32)),
+        user_place: at + USER_ID,
+        user_length: text::cut_length(slices::part_at(file, at + USER_ID, 16)),
+        record_id: number_at(file, at + RECORD_ID, 2),
+        description_place: at + DESCRIPTION,
+        description_length: text::cut_length(slices::part_at(file, at + DESCRIPTION, 32)),
         payload_place: at + FRONT,
         payload_length: vlr::payload_length_at(file, at),
     }
@@ -59,13 +65,17 @@ impl VlrCursor {
         let index = self.index;
         let position = self.position;
         if header::record_count(file) <= index {
-            return Step::Refused(18);
+            return Step::Refused(refusals::NO_RECORD);
         }
         if position < header::header_size(file) {
-            return Step::Refused(18);
+            return Step::Refused(refusals::NO_RECORD);
         }
-        if !vlr::records_fit(file, 1, position, header::point_offset(file)) {
-            return Step::Refused(18);
+        if !fits_in(
+            header::point_offset(file),
+            position,
+            vlr::size_at(file, position),
+        ) {
+            return Step::Refused(refusals::NO_RECORD);
         }
         let places = places_at(file, position);
         let next = places.payload_place + places.payload_length;

@@ -3,7 +3,7 @@ ghost use mathlib.Core.Path.{_≡_};
 ghost use lib.ListN.{length};
 ghost use Rattle.fields.specs.Bytes.{part};
 ghost use Rattle.fields.specs.Text.{cut};
-ghost use Rattle.reader.specs.Header.{identityOf, creationOf, layoutOf, byReturnOf, statedBounds, headerOf, headerRead};
+ghost use Rattle.reader.specs.Header.{identityOf, creationOf, fileLayoutOf, byReturnOf, statedBounds, headerOf, headerRead};
 use fields::Verdict;
 use fields::numbers::number_at;
 use fields::slices;
@@ -33,7 +33,7 @@ pub struct Creation {
 }
 
 // Where things are and how many there are.
-pub struct Layout {
+pub struct FileLayout {
     pub header_size: u64,
     pub point_offset: u64,
     pub vlr_count: u64,
@@ -55,7 +55,7 @@ pub struct ByReturn {
 pub struct Header {
     pub identity: Identity,
     pub creation: Creation,
-    pub layout: Layout,
+    pub layout: FileLayout,
     pub by_return: ByReturn,
     pub scaling: Scaling,
     pub bounds: Bounds,
@@ -99,10 +99,10 @@ fn creation_of(file: &[u8]) -> Creation
     }
 }
 
-fn layout_of(file: &[u8]) -> Layout
-    ensures { λ r. ⌜ r ≡ layoutOf (now (file .entry)) ⌝ }
+fn file_layout_of(file: &[u8]) -> FileLayout
+    ensures { λ r. ⌜ r ≡ fileLayoutOf (now (file .entry)) ⌝ }
 {
-    Layout {
+    FileLayout {
         header_size: header::header_size(file) as u64,
         point_offset: header::point_offset(file) as u64,
         vlr_count: header::record_count(file) as u64,
@@ -143,7 +143,7 @@ fn header_of(file: &[u8]) -> Header
     Header {
         identity: identity_of(file),
         creation: creation_of(file),
-        layout: layout_of(file),
+        layout: file_layout_of(file),
         by_return: by_return_of(file),
         scaling: Scaling::read(file),
         bounds: stated_bounds(file),

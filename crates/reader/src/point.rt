@@ -2,6 +2,7 @@
 ghost use mathlib.Core.Path.{_≡_};
 ghost use Rattle.reader.specs.OnePoint.{pointAtOf};
 use fields::Verdict;
+use fields::refusals;
 use fields::slices;
 use lasfile::header;
 use points::Point;
@@ -21,7 +22,7 @@ pub fn point_at(file: &[u8], index: usize) -> PointAt
         return PointAt::Refused(n);
     }
     if header::point_count(file) <= index {
-        return PointAt::Refused(11);
+        return PointAt::Refused(refusals::POINT_INDEX);
     }
     let length = header::record_length(file);
     let place = header::point_offset(file) + index * length;

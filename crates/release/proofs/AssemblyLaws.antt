@@ -1,4 +1,5 @@
--- What is written of a file that passes is the released file and zeros, and the numbers that are returned are the public part's.
+-- What is written of a file that passes is the released file and zeros, and the numbers that are returned are the
+-- public part's.
 -- Assumes nothing.
 use mathlib.Core.Path.{_≡_, refl, sym, ap, _∙_}
 use mathlib.Core.Bool.{Bool}
@@ -20,12 +21,12 @@ use Rattle.lasfile.proofs.header.FieldLaws.{count-low}
 use Rattle.lasfile.specs.HeaderFields.{headerBlock, pointOffset, pointCount, recordLength, format}
 use Rattle.lasfile.specs.FileChecks.{fileVerdict}
 use Rattle.lasfile.proofs.Passed.{passed}
-use Rattle.sheet.specs.Keeping.{keepsPoint}
-use Rattle.tally.specs.PointRuns.{pointsOf}
-use Rattle.tally.proofs.point_runs.RunLaws.{Held, points-held}
+use Rattle.sheet.specs.Keeping.{keepsPoint, TableOf, inTable}
+use Rattle.points.specs.Raw.{pointsOf}
+use Rattle.points.proofs.raw.RunLaws.{Held, points-held}
 use Rattle.tally.specs.Tally.{tallyOf}
 use Rattle.tally.proofs.TallyLaws.{tally-count, tally-bins}
-use Rattle.tally.proofs.bounds.BoundsLaws.{tally-bounds}
+use Rattle.tally.proofs.BoundsLaws.{tally-bounds}
 use Rattle.publicpart.specs.Public.{Public, contents, publicOf}
 use Rattle.publicpart.specs.Head.{Head, headFields}
 use Rattle.publicpart.specs.Render.{newOffset, headOf, render}
@@ -40,11 +41,9 @@ use Rattle.release.specs.Heads.{headWith, headBytes}
 use Rattle.release.proofs.head.HeadLaws.{whole-head}
 use Rattle.release.specs.declared.vlrs.KeptRecords.{KeptRecords}
 use Rattle.release.specs.KeptRecords.{measured}
-use Rattle.sheet.specs.Classes.{TableOf, inTable}
 use Rattle.sheet.proofs.class_table.ClassLaws.{table-keeps}
-use Rattle.release.specs.KeptPoints.{keptPoints}
+use Rattle.release.specs.Assembly.{keptPoints, totalsOf, withPoints, written}
 use Rattle.release.proofs.kept_points.KeptPointLaws.{kept-held}
-use Rattle.release.specs.Assembly.{totalsOf, withPoints, written}
 use Rattle.release.proofs.assembly.PointLaws.{with-points}
 use Rattle.release.proofs.assembly.WrittenLaws.{head-said, written-is}
 

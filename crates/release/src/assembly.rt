@@ -1,19 +1,16 @@
-// A released file, put together in the output: kept records, kept points and zeros behind them, and the header of these.
+// A released file, put together in the output: kept records, kept points and zeros behind them, and the header of
+// these.
 ghost use mathlib.Core.Path.{_≡_};
-ghost use lib.ListN.{drop};
-ghost use Rattle.lasfile.specs.HeaderFields.{format, recordLength};
-ghost use Rattle.tally.specs.PointRuns.{pointsOf};
-ghost use Rattle.tally.specs.Tally.{tallyOf};
-ghost use Rattle.release.specs.Assembly.{withPoints, totalsOf, withHead, written};
+ghost use Rattle.release.specs.Assembly.{withPoints, totalsIn, withHead, written};
 use crate::copier;
 use crate::head;
 use crate::head::HeadTotals;
 use crate::vlrs;
 use fields::slices;
 use lasfile::header;
-use tally::bounds;
 
-// Lends the output from the new point offset `start` on to the point copier, which zeros the rest. An output that does not reach it is left as it is.
+// Lends the output from the new point offset `start` on to the point copier, which zeros the rest. An output that does
+// not reach it is left as it is.
 fn put_points(file: &[u8], table: &[bool; 256], start: usize, out: &mut [u8])
     ensures { λ _. ⌜ now (out .exit) ≡ withPoints (now (table .entry)) (now (file .entry)) start (now (out .entry)) ⌝ }
 {
@@ -36,14 +33,14 @@ fn put_points(file: &[u8], table: &[bool; 256], start: usize, out: &mut [u8])
 
 // What the header says of `records` records and of the `points` points that stand in the output from `start` on.
 fn totals_of(file: &[u8], points: usize, records: usize, start: usize, out: &[u8]) -> HeadTotals
-    ensures { λ r. ⌜ r ≡ totalsOf (now (file .entry)) (tallyOf (format (now (file .entry))) (pointsOf points (recordLength (now (file .entry))) (drop start (now (out .entry))))) records start ⌝ }
+    ensures { λ r. ⌜ r ≡ totalsIn (now (file .entry)) points records start (now (out .entry)) ⌝ }
 {
     let format = header::format(file);
     let record_length = header::record_length(file);
     let run = slices::part_at(out, start, out.len());
     let tally = tally::tally_points(run, format, record_length, points);
     let bins = tally.bins;
-    let bounds = bounds::bounds_of(tally, scaling::Scaling::read(file));
+    let bounds = tally::bounds_of(tally, scaling::Scaling::read(file));
     HeadTotals {
         offset: start as u64,
         records: records as u64,
@@ -61,9 +58,9 @@ fn put_header(file: &[u8], points: usize, records: usize, start: usize, out: &mu
     head::put_head(file, totals, out);
 }
 
-// Writes the released file and zeros the rest: `records` kept records after the header, `points` kept points from the new point offset `start` on, and last the
-// header, since it counts the points where they stand.
-pub fn write(
+// Writes the released file and zeros the rest: `records` kept records after the header, `points` kept points from the
+// new point offset `start` on, and last the header, since it counts the points where they stand.
+pub(crate) fn write(
     file: &[u8],
     sheet: &[u8],
     table: &[bool; 256],
@@ -72,7 +69,9 @@ pub fn write(
     start: usize,
     out: &mut [u8],
 )
-    ensures { λ _. ⌜ now (out .exit) ≡ written (now (sheet .entry)) (now (file .entry)) (now (table .entry)) points records start (now (out .entry)) ⌝ }
+    ensures { λ _. ⌜ now (out .exit)
+        ≡ written (now (sheet .entry)) (now (file .entry)) (now (table .entry)) points records start
+        (now (out .entry)) ⌝ }
 {
     vlrs::copy_records(file, sheet, out);
     put_points(file, table, start, out);

@@ -3,18 +3,17 @@ ghost use mathlib.Core.Path.{_≡_};
 ghost use mathlib.Core.List.{_++_};
 ghost use Prim.Native.Nat.{_*_, _≤_};
 ghost use lib.ListN.{length, take};
-ghost use Rattle.fields.specs.Lists.{kept};
-ghost use Rattle.fields.specs.Bytes.{pieces, join, zeros};
-ghost use Rattle.sheet.specs.Classes.{inTable};
-ghost use Rattle.release.specs.KeptPoints.{keptPoints};
+ghost use Rattle.fields.specs.Bytes.{join, zeros};
+ghost use Rattle.release.specs.Assembly.{keptPoints, keptOf, AtFront};
 use crate::kept_points;
 use fields::copying;
 use fields::slices;
+use points::raw;
 use sheet::class_table;
-use tally::point_runs;
 
-// Writes the kept points of a run that holds them all to the front of `out`, and says how many bytes they are. Each record is written to where the next kept one
-// goes, and the next goes behind it only where it is kept: there is no branch on that.
+// Writes the kept points of a run that holds them all to the front of `out`, and says how many bytes they are. Each
+// record is written to where the next kept one goes, and the next goes behind it only where it is kept: there is no
+// branch on that.
 fn copy_run(
     run: &[u8],
     format: u8,
@@ -24,7 +23,9 @@ fn copy_run(
     out: &mut [u8],
 ) -> usize
     requires { ⌜ count * «record_length» ≤ length (now run) ⌝ }
-    ensures { λ r. ⌜ (r ≡ length (join (kept (inTable (now (table .entry)) format) (pieces count «record_length» (now (run .entry)))))) × (take r (now (out .exit)) ≡ take (length (now (out .entry))) (join (kept (inTable (now (table .entry)) format) (pieces count «record_length» (now (run .entry)))))) ⌝ }
+    ensures { λ r. ⌜
+        AtFront (join (keptOf (now (table .entry)) format count «record_length» (now (run .entry))))
+        (now (out .entry)) r (now (out .exit)) ⌝ }
 {
     let mut at = 0;
     let mut to = 0;
@@ -34,7 +35,7 @@ fn copy_run(
         let point = &run[at..next];
         let keep = class_table::in_table(table, format, point);
         copying::copy(point, out, to);
-        to += kept_points::step(keep, record_length);
+        to += kept_points::advance(keep, record_length);
         at = next;
         left -= 1;
     }
@@ -50,18 +51,20 @@ fn copy_front(
     table: &[bool; 256],
     out: &mut [u8],
 ) -> usize
-    ensures { λ r. ⌜ (r ≡ length (join (keptPoints (now (table .entry)) format count «record_length» (now (run .entry))))) × (take r (now (out .exit)) ≡ take (length (now (out .entry))) (join (keptPoints (now (table .entry)) format count «record_length» (now (run .entry))))) ⌝ }
+    ensures { λ r. ⌜
+        AtFront (join (keptPoints (now (table .entry)) format count «record_length» (now (run .entry))))
+        (now (out .entry)) r (now (out .exit)) ⌝ }
 {
-    if point_runs::holds(run.len(), record_length, count) {
+    if raw::holds(run.len(), record_length, count) {
         copy_run(run, format, record_length, count, table, out)
     } else {
         0
     }
 }
 
-// Writes those of the first `count` records of `run`, `record_length` bytes each, that the table keeps, one after the other, and zeros behind them, as far as
-// `out` has room; zeros alone where the run does not hold the records.
-pub fn copy_points(
+// Writes those of the first `count` records of `run`, `record_length` bytes each, that the table keeps, one after the
+// other, and zeros behind them, as far as `out` has room; zeros alone where the run does not hold the records.
+pub(crate) fn copy_points(
     run: &[u8],
     format: u8,
     record_length: usize,
@@ -69,7 +72,10 @@ pub fn copy_points(
     table: &[bool; 256],
     out: &mut [u8],
 )
-    ensures { λ _. ⌜ now (out .exit) ≡ take (length (now (out .entry))) (join (keptPoints (now (table .entry)) format count «record_length» (now (run .entry))) ++ zeros (length (now (out .entry)))) ⌝ }
+    ensures { λ _. ⌜ now (out .exit)
+        ≡ take (length (now (out .entry)))
+        (join (keptPoints (now (table .entry)) format count «record_length» (now (run .entry)))
+        ++ zeros (length (now (out .entry)))) ⌝ }
 {
     let room = out.len();
     let to = copy_front(run, format, record_length, count, table, out);

@@ -2,8 +2,7 @@
 ghost use mathlib.Core.Path.{_≡_};
 ghost use lib.Seq.{sets};
 ghost use Rattle.release.specs.declared.head.HeadTotals.{HeadTotals};
-ghost use Rattle.release.specs.Heads.{headWith, headBytes};
-ghost use Rattle.release.specs.Stores.{fieldsStored};
+ghost use Rattle.release.specs.Heads.{headWith, headBytes, fieldsStored};
 use fields::arrays::put_numbers;
 use fields::copying;
 use fields::numbers::number_at;
@@ -26,13 +25,14 @@ pub struct HeadTotals {
 
 // Places 0 to 89: signature to generating software, which are the same for all totals.
 fn put_front(source: &[u8], out: &mut [u8])
-    ensures { λ _. ⌜ ((t : HeadTotals) → now (out .exit) ≡ fieldsStored 0 5 (headWith (now (source .entry)) t) (now (out .entry))) ⌝ }
+    ensures { λ _. ⌜ ((t : HeadTotals)
+        → now (out .exit) ≡ fieldsStored 0 5 (headWith (now (source .entry)) t) (now (out .entry))) ⌝ }
 {
     copying::copy(b"LASF", out, 0);
     copying::copy(slices::part_at(source, 4, 20), out, 4);
     copying::copy(b"\x01\x02", out, 24);
-    text::put_text(out, 26, 32, slices::part_at(source, 26, 32));
-    text::put_text(out, 58, 32, slices::part_at(source, 58, 32));
+    text::put_text(out, 26, 32, source, 26);
+    text::put_text(out, 58, 32, source, 58);
 }
 
 // Places 90 to 130: creation day to points by return.
@@ -54,8 +54,9 @@ fn put_middle(source: &[u8], totals: HeadTotals, out: &mut [u8])
     );
 }
 
-// Writes a header at the front of `out`: the carried fields of the file `source`, and these totals. A source shorter than a header gives none.
-pub fn put_head(source: &[u8], totals: HeadTotals, out: &mut [u8])
+// Writes a header at the front of `out`: the carried fields of the file `source`, and these totals. A source shorter
+// than a header gives none.
+pub(crate) fn put_head(source: &[u8], totals: HeadTotals, out: &mut [u8])
     ensures { λ _. ⌜ now (out .exit) ≡ sets (now (out .entry)) 0 (headBytes (now (source .entry)) totals) ⌝ }
 {
     if source.len() < HEADER_BLOCK {

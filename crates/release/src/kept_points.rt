@@ -4,15 +4,12 @@ ghost use mathlib.Core.Path.{_≡_};
 ghost use mathlib.Core.Bool.{cond};
 ghost use Prim.Native.Nat.{_*_, _≤_};
 ghost use lib.ListN.{length};
-ghost use Rattle.fields.specs.Lists.{kept};
-ghost use Rattle.fields.specs.Bytes.{pieces};
-ghost use Rattle.sheet.specs.Classes.{inTable};
-ghost use Rattle.release.specs.KeptPoints.{keptPoints};
+ghost use Rattle.release.specs.Assembly.{keptPoints, keptOf};
+use points::raw;
 use sheet::class_table;
-use tally::point_runs;
 
 // How far to go on where a point is kept, and where it is not. The compiler makes no branch of it.
-pub fn step(keep: bool, n: usize) -> usize
+pub(crate) fn advance(keep: bool, n: usize) -> usize
     ensures { λ r. ⌜ (r ≡ cond keep n 0) × (r ≤ n) ⌝ }
 {
     if keep { n } else { 0 }
@@ -27,7 +24,7 @@ fn count_run(
     table: &[bool; 256],
 ) -> usize
     requires { ⌜ count * «record_length» ≤ length (now run) ⌝ }
-    ensures { λ r. ⌜ r ≡ length (kept (inTable (now (table .entry)) format) (pieces count «record_length» (now (run .entry)))) ⌝ }
+    ensures { λ r. ⌜ r ≡ length (keptOf (now (table .entry)) format count «record_length» (now (run .entry))) ⌝ }
 {
     let mut at = 0;
     let mut n = 0;
@@ -35,15 +32,16 @@ fn count_run(
     while 0 < left {
         let next = at + record_length;
         let point = &run[at..next];
-        n += step(class_table::in_table(table, format, point), 1);
+        n += advance(class_table::in_table(table, format, point), 1);
         at = next;
         left -= 1;
     }
     n
 }
 
-// How many of the first `count` records of `run`, `record_length` bytes each, the table keeps; none where the run does not hold them.
-pub fn count_points(
+// How many of the first `count` records of `run`, `record_length` bytes each, the table keeps; none where the run does
+// not hold them.
+pub(crate) fn count_points(
     run: &[u8],
     format: u8,
     record_length: usize,
@@ -52,7 +50,7 @@ pub fn count_points(
 ) -> usize
     ensures { λ r. ⌜ r ≡ length (keptPoints (now (table .entry)) format count «record_length» (now (run .entry))) ⌝ }
 {
-    if point_runs::holds(run.len(), record_length, count) {
+    if raw::holds(run.len(), record_length, count) {
         count_run(run, format, record_length, count, table)
     } else {
         0

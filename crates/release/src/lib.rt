@@ -1,9 +1,10 @@
-// The release: cuts a sample out of a LAS 1.2 file under a keep sheet, so that the output shows the public part and nothing else.
-pub mod assembly;
-pub mod copier;
-pub mod head;
-pub mod kept_points;
-pub mod vlrs;
+// The release: cuts a sample out of a LAS 1.2 file under a keep sheet, so that the output shows the public part and
+// nothing else.
+mod assembly;
+mod copier;
+mod head;
+mod kept_points;
+mod vlrs;
 
 ghost use mathlib.Core.Path.{_≡_};
 ghost use Rattle.publicpart.specs.Release.{release};

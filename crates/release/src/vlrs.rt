@@ -1,13 +1,13 @@
-// The records that a sheet keeps of a file: how many and how long they are, and writing them. What is said here holds of any file; one that fails the file checks
-// may count records that it does not have, and each takes a step. `vlr` is bytes that begin with a record.
+// The records that a sheet keeps of a file: how many and how long they are, and writing them. What is said here holds
+// of any file; one that fails the file checks may count records that it does not have, and each takes a step. `vlr` is
+// bytes that begin with a record.
 ghost use mathlib.Core.Path.{_≡_};
 ghost use Prim.Native.Nat.{_<_, _^_};
 ghost use lib.Seq.{sets};
-ghost use Rattle.lasfile.specs.Records.{recordOf, recordLen, recordBytes, recordsBytes};
+ghost use Rattle.lasfile.specs.Records.{recordOf, recordLen, recordBytes};
 ghost use Rattle.publicpart.specs.Public.{keptRecord, publicOf};
-ghost use Rattle.release.specs.KeptRecords.{measured};
-ghost use Rattle.release.specs.RecordParts.{nameBytes, contentBytes};
-ghost use Rattle.lasfile.specs.HeaderFields.{headerBlock};
+ghost use Rattle.release.specs.KeptRecords.{measured, nameBytes, contentBytes};
+ghost use Rattle.release.specs.Assembly.{withRecords};
 use fields::copying;
 use fields::numbers::number_at;
 use fields::numbers::put_number;
@@ -16,7 +16,11 @@ use fields::text;
 use lasfile::header;
 use lasfile::header::HEADER_BLOCK;
 use lasfile::vlr;
+use lasfile::vlr::DESCRIPTION;
 use lasfile::vlr::FRONT;
+use lasfile::vlr::PAYLOAD_LENGTH;
+use lasfile::vlr::RECORD_ID;
+use lasfile::vlr::USER_ID;
 use sheet::lookup;
 
 // How many records are kept, and how long they are with their headers.
@@ -29,8 +33,8 @@ pub struct KeptRecords {
 fn keeps(sheet: &[u8], vlr: &[u8]) -> bool
     ensures { λ r. ⌜ r ≡ keptRecord (now (sheet .entry)) (recordOf 2 (now (vlr .entry))) ⌝ }
 {
-    let id = number_at(vlr, 18, 2) as u16;
-    lookup::holds_record(sheet, slices::part_at(vlr, 2, 16), id)
+    let id = number_at(vlr, RECORD_ID, 2) as u16;
+    lookup::holds_record(sheet, slices::part_at(vlr, USER_ID, 16), id)
 }
 
 // Its payload, as far as it is there.
@@ -49,7 +53,7 @@ fn written_length(vlr: &[u8]) -> usize
 }
 
 // Measures the records that a sheet keeps of a file.
-pub fn measure(file: &[u8], sheet: &[u8]) -> KeptRecords
+pub(crate) fn measure(file: &[u8], sheet: &[u8]) -> KeptRecords
     ensures { λ r. ⌜ r ≡ measured (publicOf (now (sheet .entry)) (now (file .entry)) .records) ⌝ }
 {
     let mut at = header::header_size(file);
@@ -73,8 +77,8 @@ fn put_name(vlr: &[u8], out: &mut [u8])
     ensures { λ _. ⌜ now (out .exit) ≡ sets (now (out .entry)) 0 (nameBytes (recordOf 2 (now (vlr .entry)))) ⌝ }
 {
     slices::zero(out, 0, 2);
-    text::put_text(out, 2, 16, slices::part_at(vlr, 2, 16));
-    put_number(out, 18, 2, number_at(vlr, 18, 2));
+    text::put_text(out, USER_ID, 16, vlr, USER_ID);
+    put_number(out, RECORD_ID, 2, number_at(vlr, RECORD_ID, 2));
 }
 
 // Places 20 on: payload length, description, payload.
@@ -82,8 +86,8 @@ fn put_contents(vlr: &[u8], out: &mut [u8])
     ensures { λ _. ⌜ now (out .exit) ≡ sets (now (out .entry)) 20 (contentBytes (recordOf 2 (now (vlr .entry)))) ⌝ }
 {
     let payload = payload_of(vlr);
-    put_number(out, 20, 2, payload.len() as u64);
-    text::put_text(out, 22, 32, slices::part_at(vlr, 22, 32));
+    put_number(out, PAYLOAD_LENGTH, 2, payload.len() as u64);
+    text::put_text(out, DESCRIPTION, 32, vlr, DESCRIPTION);
     copying::copy(payload, out, FRONT);
 }
 
@@ -106,8 +110,8 @@ fn put_record_at(vlr: &[u8], out: &mut [u8], to: usize)
 }
 
 // Writes the records that a sheet keeps of a file one after the other, directly after the header.
-pub fn copy_records(file: &[u8], sheet: &[u8], out: &mut [u8])
-    ensures { λ _. ⌜ now (out .exit) ≡ sets (now (out .entry)) headerBlock (recordsBytes 2 (publicOf (now (sheet .entry)) (now (file .entry)) .records)) ⌝ }
+pub(crate) fn copy_records(file: &[u8], sheet: &[u8], out: &mut [u8])
+    ensures { λ _. ⌜ now (out .exit) ≡ withRecords (now (sheet .entry)) (now (file .entry)) (now (out .entry)) ⌝ }
 {
     let mut at = header::header_size(file);
     let mut left = header::record_count(file);

@@ -2,21 +2,14 @@
 pub mod doubles;
 
 ghost use mathlib.Core.Path.{_≡_};
-ghost use Rattle.scaling.specs.Coordinate.{coordinateBits};
 ghost use Rattle.scaling.specs.Scaling.{doubleAt, scalingOf, goodScale, goodOffset, goodScaling, coordinatesOf, boundsOf};
+use crate::doubles::bits_of;
 use crate::doubles::coordinate;
 
 fn double_at(s: &[u8], at: usize) -> f64
     ensures { λ r. ⌜ r ≡ doubleAt (now (s .entry)) at ⌝ }
 {
     doubles::double_of(fields::numbers::number_at(s, at, 8))
-}
-
-// The bits of a bound: of the coordinate of an extreme.
-fn bound(stored: i32, scale: f64, offset: f64) -> u64
-    ensures { λ r. ⌜ r ≡ coordinateBits stored scale offset ⌝ }
-{
-    doubles::bits_of(coordinate(stored, scale, offset))
 }
 
 // 2^-40
@@ -114,17 +107,19 @@ impl Scaling {
         }
     }
 
-    // The bounds: the coordinates of the extremes.
+    // The bounds by their bits: the coordinates of the largest stored values, and of the smallest.
     pub fn bounds(self, e: Extremes) -> Bounds
         ensures { λ r. ⌜ r ≡ boundsOf self e ⌝ }
     {
+        let max = self.coordinates(e.max_x, e.max_y, e.max_z);
+        let min = self.coordinates(e.min_x, e.min_y, e.min_z);
         Bounds {
-            max_x: bound(e.max_x, self.x_scale, self.x_offset),
-            min_x: bound(e.min_x, self.x_scale, self.x_offset),
-            max_y: bound(e.max_y, self.y_scale, self.y_offset),
-            min_y: bound(e.min_y, self.y_scale, self.y_offset),
-            max_z: bound(e.max_z, self.z_scale, self.z_offset),
-            min_z: bound(e.min_z, self.z_scale, self.z_offset),
+            max_x: bits_of(max.x),
+            min_x: bits_of(min.x),
+            max_y: bits_of(max.y),
+            min_y: bits_of(min.y),
+            max_z: bits_of(max.z),
+            min_z: bits_of(min.z),
         }
     }
 }

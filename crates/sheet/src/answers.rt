@@ -1,9 +1,6 @@
 // What a keep sheet, once checked, says of a class or a record.
 ghost use mathlib.Core.Path.{_≡_};
-ghost use Rattle.fields.specs.Text.{cut};
-ghost use Rattle.sheet.specs.Sheet.{sheetVerdict};
-ghost use Rattle.sheet.specs.Keeping.{keepsClass, keepsRecord};
-ghost use Rattle.sheet.specs.KeptAnswers.{keptUnder};
+ghost use Rattle.sheet.specs.Keeping.{keptUnder, classKept, recordKept};
 use crate::lookup;
 
 // What a sheet says of a class or a record; its number, where the sheet fails.
@@ -25,14 +22,14 @@ fn answer(verdict: fields::Verdict, kept: bool) -> Kept
 
 // Checks the sheet, and says whether it keeps a class.
 pub fn class_kept(sheet: &[u8], class: u8) -> Kept
-    ensures { λ r. ⌜ r ≡ keptUnder (sheetVerdict (now (sheet .entry))) (keepsClass (now (sheet .entry)) class) ⌝ }
+    ensures { λ r. ⌜ r ≡ classKept (now (sheet .entry)) class ⌝ }
 {
     answer(crate::check_sheet(sheet), lookup::holds_class(sheet, class))
 }
 
 // Checks the sheet, and says whether it keeps a record.
 pub fn record_kept(sheet: &[u8], user: &[u8], id: u16) -> Kept
-    ensures { λ r. ⌜ r ≡ keptUnder (sheetVerdict (now (sheet .entry))) (keepsRecord (now (sheet .entry)) (cut (now (user .entry))) id) ⌝ }
+    ensures { λ r. ⌜ r ≡ recordKept (now (sheet .entry)) (now (user .entry)) id ⌝ }
 {
     answer(
         crate::check_sheet(sheet),

@@ -1,21 +1,12 @@
-// A point's class, a table of the classes that a sheet keeps, and whether it keeps a point.
+// A table of the classes that a sheet keeps, and whether it keeps a point.
 ghost use mathlib.Core.Path.{_≡_};
 ghost use Prim.Native.Nat.{_<_};
-ghost use Rattle.points.specs.Formats.{classOf};
-ghost use Rattle.sheet.specs.Classes.{TableOf, inTable};
+ghost use Rattle.sheet.specs.Keeping.{TableOf, inTable};
 use crate::lookup;
+use points::raw;
 
-// The place of the classification byte in a point.
-const CLASSIFICATION: usize = 15;
-
-// The class of a point, by its format and bytes.
-pub fn class_of(format: u8, point: &[u8]) -> u8
-    ensures { λ r. ⌜ r ≡ classOf format (now (point .entry)) ⌝ }
-{
-    fields::numbers::u8_at(point, CLASSIFICATION)
-}
-
-// Which of the 256 classes a sheet keeps: entry c is for class c. It is made once for a release, so that no point is looked up in the sheet.
+// Which of the 256 classes a sheet keeps: entry c is for class c. It is made once for a release, so that no point is
+// looked up in the sheet.
 pub fn class_table(sheet: &[u8]) -> [bool; 256]
     ensures { λ r. ⌜ TableOf (now (sheet .entry)) r ⌝ }
 {
@@ -37,5 +28,5 @@ fn wide(b: u8) -> usize
 pub fn in_table(table: &[bool; 256], format: u8, point: &[u8]) -> bool
     ensures { λ r. ⌜ r ≡ inTable (now (table .entry)) format (now (point .entry)) ⌝ }
 {
-    table[wide(class_of(format, point))]
+    table[wide(raw::class_of(format, point))]
 }

@@ -9,17 +9,18 @@ ghost use lib.ListN.{drop};
 ghost use Rattle.fields.specs.Bytes.{part, same};
 ghost use Rattle.fields.specs.Checks.{firstFailing};
 ghost use Rattle.sheet.specs.Sheet.{kind, lineLength, firstLine, afterLine, inOrder, lineChecks, sheetVerdict};
+use fields::refusals;
 use fields::slices;
 
 // The places of a line's fields: its kind, and the classes of a kind 1 line.
-pub const KIND: usize = 2;
+pub(crate) const KIND: usize = 2;
 
-pub const LOWEST: usize = 3;
+pub(crate) const LOWEST: usize = 3;
 
-pub const HIGHEST: usize = 4;
+pub(crate) const HIGHEST: usize = 4;
 
 // A sheet has at most so many lines.
-pub const MOST_LINES: usize = 64;
+pub(crate) const MOST_LINES: usize = 64;
 
 // A line's length by its kind, 0 for an unknown kind.
 const LENGTHS: [u8; 3] = [0, 5, 21];
@@ -33,14 +34,14 @@ fn line_length(rest: &[u8]) -> usize
 }
 
 // The line that bytes begin with, or as much of it as there is.
-pub fn first_line(rest: &[u8]) -> &[u8]
+pub(crate) fn first_line(rest: &[u8]) -> &[u8]
     ensures { λ r. ⌜ now r ≡ firstLine (now (rest .entry)) ⌝ }
 {
     slices::part_at(rest, 0, line_length(rest))
 }
 
 // What follows the line that bytes begin with.
-pub fn after_line(rest: &[u8]) -> &[u8]
+pub(crate) fn after_line(rest: &[u8]) -> &[u8]
     ensures { λ r. ⌜ now r ≡ afterLine (now (rest .entry)) ⌝ }
 {
     slices::part_at(rest, line_length(rest), rest.len())
@@ -67,15 +68,15 @@ fn check_body(rest: &[u8]) -> fields::Verdict
 {
     let length = line_length(rest);
     if length < 1 {
-        return fields::Verdict::Fails(21);
+        return fields::Verdict::Fails(refusals::LINE_KIND);
     }
     if rest.len() < length {
-        return fields::Verdict::Fails(22);
+        return fields::Verdict::Fails(refusals::LINE_CUT);
     }
     if in_order(rest) {
         fields::Verdict::Passes
     } else {
-        fields::Verdict::Fails(23)
+        fields::Verdict::Fails(refusals::LOW_ABOVE_HIGH)
     }
 }
 
@@ -84,12 +85,12 @@ fn check_line(rest: &[u8]) -> fields::Verdict
     ensures { λ r. ⌜ r ≡ firstFailing (lineChecks (now (rest .entry))) ⌝ }
 {
     if rest.len() < 3 {
-        return fields::Verdict::Fails(22);
+        return fields::Verdict::Fails(refusals::LINE_CUT);
     }
     if marked(rest) {
         check_body(rest)
     } else {
-        fields::Verdict::Fails(20)
+        fields::Verdict::Fails(refusals::LINE_MARK)
     }
 }
 
@@ -101,7 +102,7 @@ pub fn check_sheet(sheet: &[u8]) -> fields::Verdict
     let mut left = MOST_LINES;
     while 0 < rest.len() {
         if left == 0 {
-            return fields::Verdict::Fails(24);
+            return fields::Verdict::Fails(refusals::TOO_MANY_LINES);
         }
         let verdict = check_line(rest);
         if let fields::Verdict::Fails(_) = verdict {

@@ -3,8 +3,7 @@ ghost use mathlib.Core.Path.{_≡_};
 ghost use Rattle.fields.specs.Lists.{some};
 ghost use Rattle.fields.specs.Text.{cut};
 ghost use Rattle.sheet.specs.Sheet.{lines};
-ghost use Rattle.sheet.specs.Keeping.{containsClass, namesRecord, keepsClass, keepsRecord};
-ghost use Rattle.sheet.specs.Search.{lineKeeps};
+ghost use Rattle.sheet.specs.Keeping.{containsClass, namesRecord, keepsClass, keepsRecord, lineKeeps};
 use fields::slices;
 use fields::text;
 
@@ -68,7 +67,7 @@ fn some_line_keeps(sheet: &[u8], sought: Sought, user: &[u8]) -> bool
 }
 
 // Whether some line contains a class. Does not check the sheet.
-pub fn holds_class(sheet: &[u8], class: u8) -> bool
+pub(crate) fn holds_class(sheet: &[u8], class: u8) -> bool
     ensures { λ r. ⌜ r ≡ keepsClass (now (sheet .entry)) class ⌝ }
 {
     some_line_keeps(sheet, Sought::Class(class), b"")

@@ -8,7 +8,7 @@ use lib.Dec.{eqb}
 use mir.Val.{boolByte}
 use Rattle.fields.specs.Bytes.{Bytes}
 use Rattle.points.specs.Points.{bit}
-use Rattle.publicpart.specs.Bounds.{returnOf}
+use Rattle.points.specs.Raw.{returnOf}
 use Rattle.tally.specs.declared.Bins.{Bins}
 use Rattle.tally.specs.declared.Tally.{Tally}
 use Rattle.tally.specs.Tally.{noTally, tallyWith, tallied, binsWith, BinsUpTo, CountsUpTo}

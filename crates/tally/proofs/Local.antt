@@ -1,6 +1,9 @@
--- A local of one's own that holds a plain struct, lent by `&mut` for a lifetime of a call, and back. It says nothing of the crate.
---     lends-local      the local's cell, at a value h whose relation holds  ⊢ ⇛ ∃ γ. own (the `&κ mut T` ((b, o), γ, h)) ∗ what its lender keeps
---     local-back       [†κ] ∗ what the lender keeps ∗ the last value under γ is h′  ⊢ ⇛ (the local's cell at h′, whose relation holds)
+-- A local of one's own that holds a plain struct, lent by `&mut` for a lifetime of a call, and back. It says nothing of
+-- the crate.
+--     lends-local      the local's cell, at a value h whose relation holds
+--                      ⊢ ⇛ ∃ γ. own (the `&κ mut T` ((b, o), γ, h)) ∗ what its lender keeps
+--     local-back       [†κ] ∗ what the lender keeps ∗ the last value under γ is h′
+--                      ⊢ ⇛ (the local's cell at h′, whose relation holds)
 -- Assumes `Given`.
 use Prim.Native.Nat.{ℕ}
 use mathlib.Core.List.{List, [], _∷_}

@@ -7,7 +7,7 @@ use mathlib.Core.List.{_∷_, foldl}
 use lib.ListN.{length, take, drop}
 use lib.Seq.{drop-drop}
 use Rattle.fields.specs.Bytes.{Bytes, pieces}
-use Rattle.tally.proofs.point_runs.RunLaws.{pieces-step, mul-step}
+use Rattle.points.proofs.raw.RunLaws.{pieces-step, mul-step}
 use Rattle.tally.specs.declared.Tally.{Tally}
 use Rattle.tally.specs.Tally.{noTally, tallied, tallyOf, CountsUpTo}
 use Rattle.tally.proofs.CountLaws.{counts-with, counts-none}

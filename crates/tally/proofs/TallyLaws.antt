@@ -1,4 +1,5 @@
--- Laws of the tally, over any list of points: its count is theirs, and its bins are those that the released header has of them. Assumes nothing.
+-- Laws of the tally, over any list of points: its count is theirs, and its bins are those that the released header has
+-- of them. Assumes nothing.
 use mathlib.Core.Path.{_≡_, refl, _∙_}
 use Prim.Native.Nat.{ℕ, _+_}
 use native.Mathlib.Omega.{arith}
@@ -8,10 +9,10 @@ use lib.Dec.{eqb}
 use Rattle.fields.specs.Lists.{kept}
 use Rattle.fields.specs.Bytes.{Bytes}
 use Rattle.points.specs.Points.{bit}
-use Rattle.publicpart.specs.Bounds.{returnOf, bins}
+use Rattle.publicpart.specs.Bounds.{bins}
+use Rattle.points.specs.Raw.{returnOf, storedOf}
 use Rattle.publicpart.proofs.BinLaws.{length-consIf, withReturn, bins-listed}
-use Rattle.tally.specs.Stored.{storedOf}
-use Rattle.tally.specs.declared.stored.Stored.{Stored}
+use Rattle.points.specs.declared.raw.Stored.{Stored}
 use Rattle.tally.specs.declared.Tally.{Tally}
 use Rattle.tally.specs.Tally.{binsWith, binNumbers, noTally, tallyWith, tallied, tallyOf}
 

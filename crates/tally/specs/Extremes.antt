@@ -4,7 +4,7 @@ use mathlib.Core.Bool.{cond}
 use lib.IntN.{ℤ, pos, negsuc}
 use lib.Signed.{ltZ}
 use Rattle.scaling.specs.declared.Extremes.{Extremes}
-use Rattle.tally.specs.declared.stored.Stored.{Stored}
+use Rattle.points.specs.declared.raw.Stored.{Stored}
 
 unfoldable pub largerOf : ℤ → ℤ → ℤ
 largerOf a b = cond (ltZ a b) b a

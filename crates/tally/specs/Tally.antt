@@ -5,12 +5,15 @@ use mathlib.Core.List.{List, [], _∷_, foldl}
 use lib.Dec.{eqb}
 use Rattle.fields.specs.Bytes.{Bytes}
 use Rattle.points.specs.Points.{bit}
-use Rattle.publicpart.specs.Bounds.{returnOf}
-use Rattle.tally.specs.Stored.{storedOf}
-use Rattle.tally.specs.declared.stored.Stored.{Stored}
+use Rattle.points.specs.Raw.{returnOf, storedOf}
+use Rattle.points.specs.declared.raw.Stored.{Stored}
 use Rattle.tally.specs.Extremes.{noExtremes, extremesWith}
 use Rattle.tally.specs.declared.Bins.{Bins}
 use Rattle.tally.specs.declared.Tally.{Tally}
+use mathlib.Core.Bool.{Bool, true, false}
+use Rattle.scaling.specs.Scaling.{boundsOf}
+use Rattle.scaling.specs.declared.Scaling.{Scaling}
+use Rattle.scaling.specs.declared.Bounds.{Bounds}
 
 -- one return number more: bin r counts return number r, and 0, 6 and 7 are in no bin
 unfoldable pub binsWith : Bins → ℕ → Bins
@@ -29,7 +32,12 @@ binNumbers b = b .first ∷ b .second ∷ b .third ∷ b .fourth ∷ b .fifth �
 
 -- the tally before any point
 unfoldable pub noTally : Tally
-noTally = record { count = 0; bins = record { first = 0; second = 0; third = 0; fourth = 0; fifth = 0 }; extremes = noExtremes }
+noTally =
+    record {
+      count = 0;
+      bins = record { first = 0; second = 0; third = 0; fourth = 0; fifth = 0 };
+      extremes = noExtremes;
+    }
 
 -- the tally with one point more, of this return number and these coordinates
 unfoldable pub tallyWith : Tally → ℕ → Stored → Tally
@@ -55,3 +63,17 @@ pub record BinsUpTo (b : Bins) (n : ℕ) : Type 0 where
 pub record CountsUpTo (t : Tally) (n : ℕ) : Type 0 where
   pub total : t .count ≤ n
   pub each : BinsUpTo (t .bins) n
+
+-- ---- the bounds that a tally gives
+
+-- the bits of +0.0, six times
+unfoldable pub zeroBounds : Bounds
+zeroBounds = record { «max_x» = 0; «min_x» = 0; «max_y» = 0; «min_y» = 0; «max_z» = 0; «min_z» = 0 }
+
+unfoldable pub boundsUnless : Bool → Bounds → Bounds
+boundsUnless true b = zeroBounds
+boundsUnless false b = b
+
+-- each bound is the coordinate of the largest or smallest stored value; with no points all six are +0.0
+unfoldable pub tallyBounds : Tally → Scaling → Bounds
+tallyBounds t c = boundsUnless (eqb (t .count) 0) (boundsOf c (t .extremes))

@@ -1,7 +1,7 @@
 // The stored extremes: the largest and the smallest stored value of each axis.
 ghost use mathlib.Core.Path.{_≡_};
 ghost use Rattle.tally.specs.Extremes.{largerOf, smallerOf, extremesWith};
-use crate::stored::Stored;
+use points::raw::Stored;
 use scaling::Extremes;
 
 fn larger(a: i32, b: i32) -> i32
@@ -17,7 +17,7 @@ fn smaller(a: i32, b: i32) -> i32
 }
 
 // The extremes with one point more.
-pub fn extended(e: Extremes, p: Stored) -> Extremes
+pub(crate) fn extended(e: Extremes, p: Stored) -> Extremes
     ensures { λ r. ⌜ r ≡ extremesWith e p ⌝ }
 {
     Extremes {

@@ -1,8 +1,5 @@
 // Counts, bins and bounds of a run of points.
-pub mod bounds;
-pub mod extremes;
-pub mod point_runs;
-pub mod stored;
+mod extremes;
 
 ghost use mathlib.Core.Path.{_≡_};
 ghost use Prim.Native.Nat.{_+_, _*_, _<_, _≤_};
@@ -10,11 +7,13 @@ ghost use lib.ListN.{length};
 ghost use lib.Dec.{eqb};
 ghost use Rattle.fields.specs.Bytes.{pieces};
 ghost use Rattle.points.specs.Points.{bit};
-ghost use Rattle.tally.specs.PointRuns.{pointsOf};
-ghost use Rattle.publicpart.specs.Bounds.{returnOf};
-ghost use Rattle.tally.specs.Tally.{noTally, binsWith, tallyWith, tallied, tallyOf, BinsUpTo, CountsUpTo};
-use crate::stored::Stored;
+ghost use Rattle.points.specs.Raw.{pointsOf};
+ghost use Rattle.tally.specs.Tally.{noTally, binsWith, tallyWith, tallied, tallyOf, BinsUpTo, CountsUpTo, tallyBounds};
+use points::raw;
+use points::raw::Stored;
+use scaling::Bounds;
 use scaling::Extremes;
+use scaling::Scaling;
 
 // How many points have the return numbers 1 to 5.
 pub struct Bins {
@@ -108,26 +107,17 @@ fn step(t: Tally, n: u8, p: Stored) -> Tally
     u
 }
 
-// The return number of a point, by its format and bytes.
-fn return_of(format: u8, point: &[u8]) -> u8
-    requires { ⌜ 20 ≤ length (now point) ⌝ }
-    ensures { λ r. ⌜ r ≡ returnOf format (now (point .entry)) ⌝ }
-{
-    point[14] % 8
-}
-
 // The tally with the point of these bytes.
 fn add_point(t: Tally, format: u8, point: &[u8]) -> Tally
     requires { ⌜ CountsUpTo t 4294967295 ⌝ }
-    requires { ⌜ 20 ≤ length (now point) ⌝ }
     ensures { λ r. ⌜ r ≡ tallied format t (now (point .entry)) ⌝ }
 {
-    step(t, return_of(format, point), stored::stored_of(point))
+    step(t, raw::return_of(format, point), raw::stored_of(point))
 }
 
 // The tally of the points of a run that holds them all.
 fn tally_run(run: &[u8], format: u8, record_length: usize, count: usize) -> Tally
-    requires { ⌜ (20 ≤ «record_length») × (count < 4294967296) × (count * «record_length» ≤ length (now run)) ⌝ }
+    requires { ⌜ (count < 4294967296) × (count * «record_length» ≤ length (now run)) ⌝ }
     ensures { λ r. ⌜ r ≡ tallyOf format (pieces count «record_length» (now (run .entry))) ⌝ }
 {
     let mut t = fresh();
@@ -142,12 +132,30 @@ fn tally_run(run: &[u8], format: u8, record_length: usize, count: usize) -> Tall
     t
 }
 
-// The tally of the first `count` records of `run`, points of a format, `record_length` bytes each; of no point where the run does not hold them.
+// The tally of the first `count` records of `run`, points of a format, `record_length` bytes each; of no point where
+// the run does not hold them.
 pub fn tally_points(run: &[u8], format: u8, record_length: usize, count: usize) -> Tally
     ensures { λ r. ⌜ r ≡ tallyOf format (pointsOf count «record_length» (now (run .entry))) ⌝ }
 {
-    if point_runs::holds(run.len(), record_length, count) {
+    if raw::holds(run.len(), record_length, count) {
         return tally_run(run, format, record_length, count);
     }
     fresh()
+}
+
+// The bits of the bounds: of the coordinates of the extremes, or of +0.0 where there is no point.
+pub fn bounds_of(t: Tally, s: Scaling) -> Bounds
+    ensures { λ r. ⌜ r ≡ tallyBounds t s ⌝ }
+{
+    if t.count == 0 {
+        return Bounds {
+            max_x: 0,
+            min_x: 0,
+            max_y: 0,
+            min_y: 0,
+            max_z: 0,
+            min_z: 0,
+        };
+    }
+    s.bounds(t.extremes)
 }

@@ -12,15 +12,15 @@ use lib.Ieee.{Float, binary64, le, mul, ofInt, ofBits}
 use lib.Ieee.Fits.{add-fits}
 use lib.Ieee.Bits.{ofBits-toBits, toBits-lt}
 use Rattle.fields.specs.Lists.{All}
-use Rattle.fields.specs.Bytes.{Bytes, part}
+use Rattle.fields.specs.Bytes.{Bytes, part, numbersBytes}
 use Rattle.scaling.specs.declared.Scaling.{Scaling}
 use Rattle.scaling.specs.Coordinate.{coordinateOf, coordinateBits}
 use Rattle.scaling.specs.Scaling.{doubleAt, scalingOf, goodScaling}
 use Rattle.theorems.specs.Coordinates.{Axis, X, Y, Z, axisScale, axisOffset, Fits32, FiniteInOrder}
 use Rattle.theorems.proofs.scaling.CoordinateTheorems.{passing}
-use Rattle.fields.specs.NumberRuns.{numbersBytes}
 use Rattle.fields.proofs.arrays.NumberLaws.{numbers-back}
-use Rattle.publicpart.specs.Bounds.{stored, largest, smallest, bounds}
+use Rattle.publicpart.specs.Bounds.{largest, smallest, bounds}
+use Rattle.points.specs.Raw.{stored}
 use Rattle.publicpart.proofs.BoundLaws.{length-bounds, bounds-some}
 use Rattle.publicpart.proofs.ExtremeLaws.{Extreme, AtMost, AtLeast, largest-is, smallest-is, stored-small}
 use Rattle.theorems.specs.BoundsOfKept.{axisNumber, maxOf, minOf, coordinateAt, Between, OfPoint, Bounded}

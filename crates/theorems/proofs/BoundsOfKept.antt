@@ -8,15 +8,15 @@ use mathlib.Core.List.{List, [], _∷_}
 use lib.Dec.{eqb, lit≤}
 use lib.ListN.{length, getD}
 use Rattle.fields.specs.Lists.{total}
-use Rattle.fields.specs.Bytes.{Bytes, part, zeros}
+use Rattle.fields.specs.Bytes.{Bytes, part, zeros, numbersBytes}
 use Rattle.fields.proofs.ListLaws.{length-kept}
 use Rattle.scaling.specs.Scaling.{scalingOf}
 use Rattle.theorems.specs.Coordinates.{Axis}
 use Rattle.lasfile.specs.HeaderFields.{format}
 use Rattle.lasfile.proofs.Passed.{passed}
-use Rattle.fields.specs.NumberRuns.{numbersBytes}
 use Rattle.fields.proofs.arrays.NumberLaws.{numbers-back}
-use Rattle.publicpart.specs.Bounds.{returnOf, bins, bounds}
+use Rattle.publicpart.specs.Bounds.{bins, bounds}
+use Rattle.points.specs.Raw.{returnOf}
 use Rattle.publicpart.specs.Public.{publicOf}
 use Rattle.publicpart.proofs.BoundLaws.{length-bins, bounds-none}
 use Rattle.publicpart.proofs.BinLaws.{withReturn, bin-at, five-bins}

@@ -25,7 +25,7 @@ use Rattle.reader.specs.declared.cursor.RecordPlaces.{RecordPlaces}
 use Rattle.reader.specs.declared.cursor.VlrCursor.{VlrCursor}
 use Rattle.reader.specs.OnePoint.{pointChecks, pointIf, pointAtOf}
 use Rattle.sheet.specs.Sheet.{lineChecks, afterLine, linesVerdict, sheetVerdict}
-use Rattle.sheet.specs.KeptAnswers.{keptUnder}
+use Rattle.sheet.specs.Keeping.{keptUnder, keepsClass, keepsRecord}
 use Rattle.geokeys.specs.GeoKeys.{directoryChecks, entryChecks, doubleChecks, textChecks, answerIf, either, doubleIn, textIn, inParameters, fromEntry, fromDirectory, lookup, locationOf, payloadAt, entryOf, projectionPlace}
 use Rattle.geokeys.specs.declared.GeoKey.{GeoKey}
 use Rattle.geokeys.specs.declared.GeoKey.the-variants.{Value}
@@ -40,14 +40,13 @@ use Rattle.reader.specs.declared.point.PointAt.{PointAt}
 use Rattle.reader.specs.declared.point.PointAt.the-variants as place
 use Rattle.sheet.specs.declared.answers.Kept.{Kept}
 use Rattle.sheet.specs.declared.answers.Kept.the-variants as sheetKept
-use Rattle.sheet.specs.Keeping.{keepsClass, keepsRecord}
 use Rattle.fields.specs.Text.{cut}
 use Rattle.publicpart.specs.Public.{publicOf}
 use Rattle.publicpart.specs.Release.{Outcome, refuseOr, shortOr, accepted, roomOr, release}
 use Rattle.capi.specs.Answers.{releasedNumbers, keptNumbers}
-use Rattle.capi.specs.RecordAnswers.{recordFields, noRecord, recordNumbers, geokeyNumbers}
-use Rattle.capi.specs.PointAnswers.{pointFields, noPoint, pointNumbers, decodedNumbers, givenPoint}
-use Rattle.capi.specs.HeaderAnswers.{headerFields, noHeader, headerNumbers}
+use Rattle.capi.specs.RecordAnswers.{foundRecord, noRecord, recordNumbers, geokeyNumbers}
+use Rattle.capi.specs.PointAnswers.{foundPoint, noPoint, pointNumbers, decodedNumbers, givenPoint}
+use Rattle.capi.specs.HeaderAnswers.{foundHeader, noHeader, headerNumbers}
 use Rattle.capi.specs.Interface.{lasCheckFile, lasCheckSheet, lasReadHeader, lasVlrStep, lasPointAt, lasDecode, lasEncode, lasClassKept, lasRecordKept, lasGeokeyFind, lasRelease}
 use Rattle.theorems.specs.Terms.{needed}
 use Rattle.theorems.specs.Tables.{ByTable, linesChecks, sheetChecks, isSome, chosen, valueChecks, parameterChecks, entryTable, keyTable, directoryTable, lookupChecks, releaseChecks}
@@ -99,24 +98,24 @@ nothing-changed =
 
 -- ---- an answer that a verdict decides has its number
 
-header-number : (v : Verdict) (h : Header) → headerNumbers (header.fieldsIf v h) .number ≡ numberOf v
-unfolding header.fieldsIf headerNumbers headerFields noHeader numberOf
+header-number : (v : Verdict) (h : Header) → headerNumbers (header.headerIf v h) .number ≡ numberOf v
+unfolding header.headerIf headerNumbers foundHeader noHeader numberOf
 header-number Passes h = refl
 header-number (Fails n) h = refl
 
 step-number : (v : Verdict) (r : RecordPlaces) (next : VlrCursor)
     → recordNumbers (recordIf v r next) .number ≡ numberOf v
-unfolding recordIf recordNumbers recordFields noRecord numberOf
+unfolding recordIf recordNumbers foundRecord noRecord numberOf
 step-number Passes r next = refl
 step-number (Fails n) r next = refl
 
 point-number : (v : Verdict) (at : ℕ) (p : Point) → pointNumbers (pointIf v at p) .number ≡ numberOf v
-unfolding pointIf pointNumbers pointFields noPoint numberOf
+unfolding pointIf pointNumbers foundPoint noPoint numberOf
 point-number Passes at p = refl
 point-number (Fails n) at p = refl
 
 decoded-number : (v : Verdict) (p : Point) → decodedNumbers (points.fieldsIf v p) .number ≡ numberOf v
-unfolding points.fieldsIf decodedNumbers pointFields noPoint numberOf
+unfolding points.fieldsIf decodedNumbers foundPoint noPoint numberOf
 decoded-number Passes p = refl
 decoded-number (Fails n) p = refl
 
@@ -324,22 +323,22 @@ released-number file sheet out =
 -- ---- zeros beside a refusal
 
 header-zeros : (a : HeaderRead) (n : ℕ) → headerNumbers a .number ≡ suc n → headerNumbers a ≡ noHeader (suc n)
-unfolding headerNumbers headerFields noHeader
+unfolding headerNumbers foundHeader noHeader
 header-zeros (read.Fields h) n e = absurd (omega arith)
 header-zeros (read.Refused m) n e = ap noHeader e
 
 step-zeros : (a : Step) (n : ℕ) → recordNumbers a .number ≡ suc n → recordNumbers a ≡ noRecord (suc n)
-unfolding recordNumbers recordFields noRecord
+unfolding recordNumbers foundRecord noRecord
 step-zeros (step.Record r next) n e = absurd (omega arith)
 step-zeros (step.Refused m) n e = ap noRecord e
 
 point-zeros : (a : PointAt) (n : ℕ) → pointNumbers a .number ≡ suc n → pointNumbers a ≡ noPoint (suc n)
-unfolding pointNumbers pointFields noPoint
+unfolding pointNumbers foundPoint noPoint
 point-zeros (place.At at p) n e = absurd (omega arith)
 point-zeros (place.Refused m) n e = ap noPoint e
 
 decoded-zeros : (a : Decoded) (n : ℕ) → decodedNumbers a .number ≡ suc n → decodedNumbers a ≡ noPoint (suc n)
-unfolding decodedNumbers pointFields noPoint
+unfolding decodedNumbers foundPoint noPoint
 decoded-zeros (point.Fields p) n e = absurd (omega arith)
 decoded-zeros (point.Refused m) n e = ap noPoint e
 

@@ -23,8 +23,7 @@ use Rattle.points.specs.Points.{decoded}
 use Rattle.scaling.specs.Coordinate.{coordinateOf}
 use Rattle.scaling.specs.Scaling.{scalingOf, goodScaling}
 use Rattle.lasfile.specs.HeaderFields.{headerSize, recordCount}
-use Rattle.lasfile.specs.Records.{places, recordLen}
-use Rattle.lasfile.specs.ReadBack.{SoundRecord}
+use Rattle.lasfile.specs.Records.{places, recordLen, SoundRecord}
 use Rattle.sheet.specs.Sheet.{sheetVerdict, lines}
 use Rattle.publicpart.specs.Public.{publicOf}
 use Rattle.publicpart.specs.declared.Answer.the-variants.{Released}
@@ -34,7 +33,7 @@ use Rattle.reader.specs.Header as header
 use Rattle.reader.specs.Header.{headerRead}
 use Rattle.reader.specs.Steps.{recordIf, stepOf}
 use Rattle.reader.specs.OnePoint.{pointIf, pointAtOf}
-use Rattle.sheet.specs.KeptAnswers.{keptUnder}
+use Rattle.sheet.specs.Keeping.{keptUnder}
 use Rattle.geokeys.specs.GeoKeys.{first, orLater, isProjection, projectionPlace, fromDirectory, answerIf, lookup}
 use Rattle.capi.specs.Answers.{keptNumbers}
 use Rattle.capi.specs.HeaderAnswers.{headerNumbers, noHeader}
@@ -209,7 +208,7 @@ pub record ComputedNumbers : Type 0 where
   pub accepts : lasRelease file9 sheet3 (used 255) .0 .number ≡ 0
 
 computed-numbers : ComputedNumbers
-unfolding computed encodeChecks large storedIf encoded header.fieldsIf headerRead stepOf recordIf pointAtOf pointIf keptUnder
+unfolding computed encodeChecks large storedIf encoded header.headerIf headerRead stepOf recordIf pointAtOf pointIf keptUnder
     projectionPlace first orLater isProjection fromDirectory answerIf lookup
     headerNumbers noHeader recordNumbers noRecord pointNumbers noPoint decodedNumbers keptNumbers geokeyNumbers isReleased
     lasCheckFile lasCheckSheet lasReadHeader lasVlrStep lasPointAt lasDecode lasEncode lasClassKept lasRecordKept lasGeokeyFind lasRelease

@@ -3,11 +3,12 @@
 use mathlib.Core.Path.{refl, ap}
 use lib.Ieee.{toBits, ofBits, add, mul, ofInt, le}
 use Rattle.fields.specs.Lists.{kept, consIf, some, total}
-use Rattle.fields.specs.Bytes.{Bytes, part, num, bytesOf, same, join, pieces}
+use Rattle.fields.specs.Bytes.{Bytes, part, num, bytesOf, same, join, pieces, numbersBytes}
 use Rattle.fields.specs.Text.{cut, padded}
 use Rattle.fields.specs.Checks.{fails, failIf, firstFailing, then, numberOf}
-use Rattle.points.specs.Formats.{formatSize, timePlace, colourPlace, classOf}
-use Rattle.points.specs.Points.{bits, numberAt, pointOf, shape, decodeChecks, fieldsIf, decoded}
+use Rattle.points.specs.Formats.{formatSize, timePlace, colourPlace}
+use Rattle.points.specs.Raw.{classOf, bits, returnOf, stored}
+use Rattle.points.specs.Points.{numberAt, pointOf, shape, decodeChecks, fieldsIf, decoded}
 use Rattle.lasfile.specs.Records.{payloadLength, recordOf, sizeOf, places, walk, walkEnd, recordBytes, recordLen, recordsBytes}
 use Rattle.scaling.specs.Coordinate.{coordinateOf, coordinateBits}
 use Rattle.scaling.specs.Scaling.{doubleAt, scalingIn, scalingOf, within, goodScale, goodOffset, goodScaling, boundsOf}
@@ -15,8 +16,7 @@ use Rattle.lasfile.specs.HeaderFields.{headerSize, pointOffset, recordCount, fo
 use Rattle.lasfile.specs.FileChecks.{recordsEnd, fileVerdict}
 use Rattle.sheet.specs.Sheet.{kind, lineLength, lowest, highest, userID, recordID, firstLine, afterLine, linesFrom, lines, inOrder, lineChecks, linesVerdict, sheetVerdict}
 use Rattle.sheet.specs.Keeping.{containsClass, namesRecord, keepsClass, keepsPoint, keepsRecord}
-use Rattle.fields.specs.NumberRuns.{numbersBytes}
-use Rattle.publicpart.specs.Bounds.{upFrom, returnOf, bins, stored, largest, smallest, extremesOf, boundNumbers, bounds}
+use Rattle.publicpart.specs.Bounds.{upFrom, bins, largest, smallest, extremesOf, boundNumbers, bounds}
 use Rattle.publicpart.specs.Public.{carriedOf, contents, restrict, publicOf}
 use Rattle.publicpart.specs.Render.{newOffset, headOf, render}
 use Rattle.publicpart.specs.Release.{refuseOr, shortOr, accepted, roomOr, release}

@@ -12,7 +12,7 @@ use Rattle.scaling.specs.Coordinate.{coordinateOf}
 use Rattle.scaling.specs.Scaling.{doubleAt, scalingOf}
 use Rattle.theorems.specs.Coordinates.{Axis, X, Y, Z, axisScale, axisOffset}
 use Rattle.lasfile.specs.HeaderFields.{format}
-use Rattle.publicpart.specs.Bounds.{returnOf, stored}
+use Rattle.points.specs.Raw.{returnOf, stored}
 use Rattle.theorems.specs.ReleasedFile.{pointsKept}
 use Rattle.theorems.specs.Terms.{Accepted, OfOutput}
 

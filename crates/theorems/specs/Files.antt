@@ -11,8 +11,7 @@ use Rattle.fields.specs.Bytes.{Bytes}
 use Rattle.fields.specs.declared.Verdict.the-variants.{Passes}
 use Rattle.lasfile.specs.FileChecks.{fileVerdict}
 use Rattle.lasfile.specs.Passed.{Passed}
-use Rattle.lasfile.specs.ReadBack.{SoundRecord}
-use Rattle.lasfile.specs.Records.{Record, walk, walkEnd, recordsBytes, recordLen}
+use Rattle.lasfile.specs.Records.{SoundRecord, Record, walk, walkEnd, recordsBytes, recordLen}
 
 pub record Files : Type 0 where
   -- a file passes the file checks exactly if it is as `Passed` says, fact by fact

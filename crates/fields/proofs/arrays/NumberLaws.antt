@@ -1,4 +1,5 @@
--- Laws of numbers back to back: how long they are, and each at its place; and what is known where some are still to write.
+-- Laws of numbers back to back: how long they are, and each at its place; and what is known where some are still to
+-- write.
 -- Assumes nothing.
 use mathlib.Core.Path.{_≡_, refl, sym, ap, _∙_}
 use mathlib.Core.Logic.{_⊎_, inl, inr}
@@ -8,10 +9,9 @@ use native.Mathlib.Omega.{arith}
 use mathlib.Core.List.{List, [], _∷_, map}
 use lib.ListN.{length, getD, drop, length-append, drop-of-length-le}
 use lib.Seq.{sets, length-sets, drop-cons}
-use Rattle.fields.specs.Bytes.{Bytes, part, num, join, bytesOf}
+use Rattle.fields.specs.Bytes.{Bytes, part, num, join, bytesOf, numbersBytes}
 use Rattle.fields.proofs.ByteLaws.{num-bytesOf, length-bytesOf, part-front, part-behind, part-part}
 use Rattle.fields.proofs.StoreLaws.{sets-append, sets-out}
-use Rattle.fields.specs.NumberRuns.{numbersBytes}
 
 pub length-numbers : (w : ℕ) (ns : List ℕ) → length (numbersBytes w ns) ≡ length ns * w
 unfolding numbersBytes join

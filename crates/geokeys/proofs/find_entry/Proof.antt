@@ -1,4 +1,5 @@
--- `geokeys::find_entry` meets its contract. The loop's invariant: the first entry is the first of those still to look at.
+-- `geokeys::find_entry` meets its contract. The loop's invariant: the first entry is the first of those still to look
+-- at.
 -- Assumes nothing.
 use mathlib.Core.Path.{_≡_, sym, ap, _∙_}
 use mathlib.Core.Bool.{Bool}

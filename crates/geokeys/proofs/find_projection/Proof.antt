@@ -1,4 +1,5 @@
--- `geokeys::find_projection` meets its contract. The loop's invariant: the first record is the first of those still to walk.
+-- `geokeys::find_projection` meets its contract. The loop's invariant: the first record is the first of those still to
+-- walk.
 -- Assumes nothing.
 use mathlib.Core.Path.{_≡_, sym, ap, _∙_}
 use mathlib.Core.Bool.{true, false}

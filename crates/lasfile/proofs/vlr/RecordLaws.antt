@@ -11,8 +11,7 @@ use lib.Dec.{lit<}
 use Rattle.fields.specs.Lists.{All, total}
 use Rattle.fields.specs.Bytes.{Bytes, AllBytes, part, num, bytesOf, join, Fit, start}
 use Rattle.fields.specs.Text.{cut, padded}
-use Rattle.lasfile.specs.Records.{Record, recordWidths, frontSize, payloadLength, recordOf, sizeOf, places, walk, walkEnd, recordFields, recordBytes, recordLen, recordsBytes}
-use Rattle.lasfile.specs.ReadBack.{SoundRecord}
+use Rattle.lasfile.specs.Records.{Record, recordWidths, frontSize, payloadLength, recordOf, sizeOf, places, walk, walkEnd, recordFields, recordBytes, recordLen, recordsBytes, SoundRecord}
 use Rattle.fields.proofs.ByteLaws.{num-bytesOf, length-bytesOf, num-part-lt, length-part, field-back, length-join, drop-bytes}
 use Rattle.fields.proofs.TextLaws.{held, length-padded}
 
@@ -35,10 +34,6 @@ walkEnd-none lw at s = refl
 pub walkEnd-step : (lw n at : ℕ) (s : Bytes) → walkEnd lw (suc n) at s ≡ walkEnd lw n (at + sizeOf lw (drop at s)) s
 unfolding walkEnd
 walkEnd-step lw n at s = refl
-
-pub walkEnd-one : (lw at : ℕ) (s : Bytes) → walkEnd lw 1 at s ≡ at + sizeOf lw (drop at s)
-unfolding walkEnd
-walkEnd-one lw at s = refl
 
 pub places-none : (lw at : ℕ) (s : Bytes) → places lw 0 at s ≡ []
 unfolding places

@@ -3,7 +3,7 @@ use mathlib.Core.Path.{sym, ap, _∙_}
 use denote.Ref.{now}
 use Rattle.points.specs.declared.layouts.Layout.{Layout}
 use Rattle.points.specs.declared.formats.Place.{Place}
-use Rattle.points.specs.Layouts.{layoutOf}
+use Rattle.points.specs.Formats.{layoutOf}
 use Rattle.points.specs.declared.Decoded.the-variants.{Fields}
 use Rattle.points.specs.Points.{numberAt}
 use Rattle.points.proofs.AnswerLaws.{refused, accepted-by, with-others}

@@ -1,12 +1,11 @@
--- Laws of the formats' sizes and places, and of a point's class.
+-- Laws of the formats' sizes and places.
 -- Assumes nothing.
 use mathlib.Core.Path.{_≡_, refl}
-use Prim.Native.Nat.{ℕ, zero, suc, _+_, _≤_, _<_}
+use Prim.Native.Nat.{ℕ, zero, suc, _+_, _≤_}
 use native.Mathlib.Omega.{arith}
-use Rattle.fields.specs.Bytes.{Bytes, AllBytes}
 use Rattle.points.specs.declared.formats.Place.{Place}
 use Rattle.points.specs.declared.formats.Place.the-variants.{At, Absent}
-use Rattle.points.specs.Formats.{formatSize, timePlace, colourPlace, classOf}
+use Rattle.points.specs.Formats.{formatSize, timePlace, colourPlace}
 
 pub sizes : (20 ≡ formatSize 0) × (28 ≡ formatSize 1) × (26 ≡ formatSize 2) × (34 ≡ formatSize 3)
 unfolding formatSize
@@ -61,9 +60,3 @@ above (suc zero) h = absurd (omega arith)
 above (suc (suc zero)) h = absurd (omega arith)
 above (suc (suc (suc zero))) h = absurd (omega arith)
 above (suc (suc (suc (suc f)))) h = record { size = refl; time = refl; colour = refl }
-
--- ---- a class is one byte
-
-pub class-byte : (f : ℕ) (p : Bytes) → AllBytes p → classOf f p < 256
-unfolding classOf
-class-byte f p h = h 15

@@ -1,7 +1,7 @@
 -- `points::has_shape` meets its contract. Assumes nothing.
 use mathlib.Core.Path.{ap}
 use Rattle.points.specs.declared.layouts.Layout.{Layout}
-use Rattle.points.specs.Layouts.{layoutOf}
+use Rattle.points.specs.Formats.{layoutOf}
 use Rattle.points.proofs.AnswerLaws.{shape-test}
 use Rattle.points.proofs.has_shape.Statement.{statement}
 use Rattle.points.proofs.has_shape.Tie as tie

@@ -1,4 +1,5 @@
--- `points::number_in` meets its contract: a part that starts at the place is read, if the format has the field. Assumes nothing.
+-- `points::number_in` meets its contract: a part that starts at the place is read, if the format has the field. Assumes
+-- nothing.
 use Rattle.points.proofs.FieldLaws.{number-none, number-past, number-there}
 use borrow.Author.Needs.{needs}
 use Rattle.points.proofs.number_in.Statement.{statement}

@@ -1,46 +1,48 @@
 -- `points::shared_of` meets its contract, field by field. Assumes nothing.
 use mathlib.Core.Path.{_≡_, ap, _∙_}
-use Prim.Native.Nat.{ℕ, _/_, _%_}
-use native.Mathlib.Omega.{arith}
 use lib.ListN.{getD}
 use lib.Dec.{eqb}
+use lib.IntN.{ℤ}
 use mir.Syntax.{w8, w32}
-use mir.Val.{toZ}
+use mir.Val.{SFits, toZ, ofZ}
 use mir.ValLaws.{toZ-ofZ}
+use Rattle.points.specs.declared.raw.Stored.{Stored}
 use Rattle.points.specs.Formats.{timePlace, colourPlace}
+use Rattle.points.specs.Raw.{bits, storedOf}
+use Rattle.points.specs.Points.{pointOf}
 use Rattle.points.proofs.formats.FormatLaws.{plain}
-use Rattle.points.specs.Points.{bits, pointOf}
 use Rattle.points.proofs.FieldLaws.{number-none}
 use Rattle.points.proofs.shared_of.Statement.{statement}
 use Rattle.points.proofs.shared_of.Tie as tie
 
 returns : tie.Need-returns
-unfolding pointOf bits
+unfolding pointOf bits storedOf
 returns c =
-    let source = c .u16-at2 .ensures in
-    let user = c .before .u8-at3 .ensures in
-    let a = c .before .before in
+    let told = c .struct-told .given in
+    let source = c .before .u16-at2 .ensures in
+    let user = c .before .before .u8-at2 .ensures in
+    let a = c .before .before .before in
+    let class = a .before .class-of .ensures in
+    let return = a .before .before .return-of .ensures in
     let p = a .before .before .before in
-    let s = p .before .before .before .before .before .args .s .now in
+    let flags = p .before .u8-at .ensures in
+    let stored = p .before .before .stored-of .ensures in
+    let s = p .before .before .before .before .args .s .now in
     let byte : a .i8-at .result ≡ toZ w8 (getD s 16 0) = a .i8-at .ensures in
     let angle = toZ-ofZ w8 (a .i8-at .result) (record { sfits = a .i8-at .ok }) ∙ byte in
-    let class : a .before .u8-at2 .result ≡ getD s 15 0 = a .before .u8-at2 .ensures in
-    let intensity = a .before .before .u16-at .ensures in
-    let z = toZ-ofZ w32 (p .i32-at3 .result) (record { sfits = p .i32-at3 .ok }) ∙ p .i32-at3 .ensures in
-    let y = toZ-ofZ w32 (p .before .i32-at2 .result) (record { sfits = p .before .i32-at2 .ok }) ∙ p .before .i32-at2 .ensures in
-    let x = toZ-ofZ w32 (p .before .before .i32-at .result) (record { sfits = p .before .before .i32-at .ok }) ∙ p .before .before .i32-at .ensures in
-    let flags = p .before .before .before .u8-at .ensures in
-    let first : p .before .before .before .u8-at .result % 8 ≡ p .before .before .before .u8-at .result / 1 % 8 = omega arith in
+    -- a stored value comes back from its bits
+    let back : (axis : Stored → ℤ) → SFits w32 (axis (p .before .before .stored-of .result)) → toZ w32 (ofZ w32 (axis (p .before .before .stored-of .result))) ≡ axis (storedOf s) =
+    λ axis fits. toZ-ofZ w32 (axis (p .before .before .stored-of .result)) fits ∙ ap axis stored in
     λ i.
     record {
-      x = x i;
-      y = y i;
-      z = z i;
-      intensity = intensity i;
-      «return_number» = (first ∙ ap (λ (b : ℕ). b / 1 % 8) flags) i;
-      returns = flags i / 8 % 8;
-      «scan_direction» = eqb (flags i / 64 % 2) 1;
-      edge = eqb (flags i / 128 % 2) 1;
+      x = back (λ q. q .x) (record { sfits = told .0 .1 }) i;
+      y = back (λ q. q .y) (record { sfits = told .1 .0 .1 }) i;
+      z = back (λ q. q .z) (record { sfits = told .1 .1 .0 .1 }) i;
+      intensity = p .u16-at .ensures i;
+      «return_number» = return i;
+      returns = bits 3 3 (flags i);
+      «scan_direction» = eqb (bits 6 1 (flags i)) 1;
+      edge = eqb (bits 7 1 (flags i)) 1;
       «class_byte» = class i;
       «scan_angle» = angle i;
       «user_data» = user i;
@@ -55,7 +57,6 @@ pub shared-of-spec : {M : Type 1} → statement M
 shared-of-spec =
     tie.close
     (tie.spec
-    (λ c κs. tt)
     (λ c κs. tt)
     (λ c κs. tt)
     (λ c κs. tt)

@@ -1,4 +1,5 @@
--- Laws of points that are put into an output: one that does not reach them, and the part of one that was lent and is back.
+-- Laws of points that are put into an output: one that does not reach them, and the part of one that was lent and is
+-- back.
 -- Assumes nothing.
 use mathlib.Core.Path.{_≡_, refl}
 use Prim.Native.Nat.{ℕ, _-_, _≤_}
@@ -10,8 +11,7 @@ use lib.Seq.{take-all}
 use Rattle.fields.specs.Bytes.{Bytes, join, zeros}
 use Rattle.fields.proofs.StoreLaws.{tail-part}
 use Rattle.lasfile.specs.HeaderFields.{pointOffset, format, recordLength, pointCount}
-use Rattle.release.specs.KeptPoints.{keptPoints}
-use Rattle.release.specs.Assembly.{pointsBytes, withPoints}
+use Rattle.release.specs.Assembly.{keptPoints, pointsBytes, withPoints}
 
 module _ (table : List Bool) (s : Bytes) (start : ℕ) (out : Bytes) where
   pub with-points : withPoints table s start out

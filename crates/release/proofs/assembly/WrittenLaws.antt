@@ -1,4 +1,5 @@
--- Laws of a file that is written: what its header says of a tally, and that the header is stored over the points as they stand.
+-- Laws of a file that is written: what its header says of a tally, and that the header is stored over the points as
+-- they stand.
 -- Assumes nothing.
 use mathlib.Core.Path.{_≡_, refl}
 use Prim.Native.Nat.{ℕ}
@@ -10,13 +11,12 @@ use Rattle.fields.specs.Bytes.{Bytes}
 use Rattle.lasfile.specs.Records.{recordsBytes}
 use Rattle.scaling.specs.Scaling.{scalingOf}
 use Rattle.lasfile.specs.HeaderFields.{headerBlock, format, recordLength}
-use Rattle.tally.specs.PointRuns.{pointsOf}
+use Rattle.points.specs.Raw.{pointsOf}
 use Rattle.publicpart.specs.Bounds.{boundNumbers}
 use Rattle.publicpart.specs.Public.{carriedOf, publicOf}
 use Rattle.publicpart.specs.Head.{Head}
 use Rattle.tally.specs.declared.Tally.{Tally}
-use Rattle.tally.specs.Tally.{binNumbers, tallyOf}
-use Rattle.tally.specs.TallyBounds.{tallyBounds}
+use Rattle.tally.specs.Tally.{binNumbers, tallyOf, tallyBounds}
 use Rattle.release.specs.Heads.{headWith, headBytes}
 use Rattle.release.specs.Assembly.{withPoints, totalsOf, withHead, written}
 

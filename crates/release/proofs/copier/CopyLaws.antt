@@ -1,4 +1,5 @@
--- The loop that copies the kept records of a run, apart from any code: what holds at the start, after a turn, and at the end.
+-- The loop that copies the kept records of a run, apart from any code: what holds at the start, after a turn, and at
+-- the end.
 -- Assumes nothing.
 use mathlib.Core.Path.{_≡_, refl, sym}
 use Prim.Native.Nat.{ℕ, zero, suc, _+_, _-_, _*_, _≤_, _<_}

@@ -5,11 +5,10 @@ use Prim.Native.Nat.{ℕ, _+_}
 use mathlib.Core.List.{List, [], _∷_, map}
 use lib.ListN.{length, replicate}
 use lib.Seq.{sets}
-use Rattle.fields.specs.Bytes.{Bytes, bytesOf, join, Fit}
+use Rattle.fields.specs.Bytes.{Bytes, bytesOf, join, Fit, numbersBytes}
 use Rattle.fields.proofs.StoreLaws.{sets-append}
-use Rattle.fields.specs.NumberRuns.{numbersBytes}
 use Rattle.fields.proofs.arrays.NumberLaws.{stored-next, stored-none}
-use Rattle.release.specs.Stores.{stores}
+use Rattle.release.specs.Heads.{stores}
 
 -- where the fields have these widths, they are stored as one run
 pub stores-join : (ws : List ℕ) (fs : List Bytes) (d : Bytes) (at : ℕ) → Fit ws fs → stores ws fs d at ≡ sets d at (join fs)

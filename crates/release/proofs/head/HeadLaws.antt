@@ -1,4 +1,5 @@
--- Laws of a header's bytes: there are none of a source shorter than a header, and else they are the fields at their places.
+-- Laws of a header's bytes: there are none of a source shorter than a header, and else they are the fields at their
+-- places.
 -- Assumes nothing.
 use mathlib.Core.Path.{_≡_, refl, ap, _∙_}
 use Prim.Native.Nat.{_≤_, _<_}
@@ -7,10 +8,9 @@ use borrow.Author.Tests.{le-leb, lt-leb}
 use mathlib.Core.List.{[]}
 use lib.ListN.{length}
 use lib.Seq.{sets}
-use Rattle.fields.specs.Bytes.{Bytes, part, join}
+use Rattle.fields.specs.Bytes.{Bytes, part, join, numbersBytes}
 use Rattle.fields.proofs.ByteLaws.{length-part}
 use Rattle.fields.proofs.TextLaws.{held}
-use Rattle.fields.specs.NumberRuns.{numbersBytes}
 use Rattle.lasfile.specs.HeaderFields.{headerBlock}
 use Rattle.publicpart.specs.Bounds.{boundNumbers}
 use Rattle.publicpart.specs.Head.{headWidths, headFields}
@@ -18,8 +18,7 @@ use Rattle.publicpart.proofs.PublicLaws.{carried-ids, carried-system, carried-s
 use Rattle.publicpart.proofs.HeadLaws.{Fitting, head-fits}
 use Rattle.tally.specs.Tally.{binNumbers}
 use Rattle.release.specs.declared.head.HeadTotals.{HeadTotals}
-use Rattle.release.specs.Heads.{headWith, bytesIf, headBytes}
-use Rattle.release.specs.Stores.{fieldsStored}
+use Rattle.release.specs.Heads.{headWith, bytesIf, headBytes, fieldsStored}
 use Rattle.release.proofs.head.FieldStores.{stores-join}
 
 pub no-head : (s : Bytes) (t : HeadTotals) → length s < headerBlock → headBytes s t ≡ []

@@ -7,10 +7,10 @@ use mathlib.Core.List.{List, []}
 use lib.ListN.{length}
 use Rattle.fields.specs.Lists.{kept}
 use Rattle.fields.specs.Bytes.{Bytes, pieces}
-use Rattle.tally.specs.PointRuns.{inRun}
-use Rattle.tally.proofs.point_runs.RunLaws.{Held, points-held, points-none}
-use Rattle.sheet.specs.Classes.{inTable}
-use Rattle.release.specs.KeptPoints.{keptPoints}
+use Rattle.points.specs.Raw.{inRun}
+use Rattle.points.proofs.raw.RunLaws.{Held, points-held, points-none}
+use Rattle.sheet.specs.Keeping.{inTable}
+use Rattle.release.specs.Assembly.{keptPoints}
 
 pub kept-held : (table : List Bool) (f count len : ℕ) (run : Bytes) → Held count len (length run)
     → keptPoints table f count len run ≡ kept (inTable table f) (pieces count len run)

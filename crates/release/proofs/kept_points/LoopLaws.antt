@@ -9,7 +9,7 @@ use lib.ListN.{length, take, drop, length-append}
 use Rattle.fields.specs.Lists.{kept, consIf}
 use Rattle.fields.specs.Bytes.{Bytes, part, pieces}
 use Rattle.fields.proofs.ByteLaws.{pieces-step}
-use Rattle.tally.proofs.point_runs.RunLaws.{mul-step}
+use Rattle.points.proofs.raw.RunLaws.{mul-step}
 
 -- the record at hand, as it is lent
 pub lent-record : (at w : ℕ) (run : Bytes) → take (at + w - at) (drop at run) ≡ part at w run

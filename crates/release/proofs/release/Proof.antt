@@ -12,13 +12,12 @@ use Rattle.lasfile.specs.HeaderFields.{headerBlock, pointOffset, format, record
 use Rattle.lasfile.specs.FileChecks.{fileVerdict}
 use Rattle.lasfile.proofs.Passed.{passed}
 use Rattle.sheet.specs.Sheet.{sheetVerdict}
-use Rattle.release.specs.KeptPoints.{keptPoints}
+use Rattle.release.specs.Assembly.{keptPoints, written}
 use Rattle.publicpart.specs.Public.{publicOf}
 use Rattle.publicpart.specs.Render.{render}
 use Rattle.publicpart.specs.Release.{Outcome}
 use Rattle.publicpart.specs.declared.Answer.the-variants.{Released, Short}
 use Rattle.publicpart.proofs.AnswerLaws.{refused-by-file, refused-by-sheet, release-short, release-long}
-use Rattle.release.specs.Assembly.{written}
 use Rattle.release.proofs.AssemblyLaws.{assembled, Sized, sized}
 use borrow.Author.Needs.{needs}
 use Rattle.release.proofs.release.Statement.{statement}

@@ -1,4 +1,5 @@
--- Laws of a record that bytes begin with, whether or not it is whole: that it can be written, and that the two parts make it up.
+-- Laws of a record that bytes begin with, whether or not it is whole: that it can be written, and that the two parts
+-- make it up.
 -- Assumes nothing.
 use mathlib.Core.Path.{_≡_, refl, _∙_}
 use Prim.Native.Nat.{_^_, _<_}
@@ -11,10 +12,9 @@ use Rattle.fields.specs.Text.{padded}
 use Rattle.fields.proofs.ByteLaws.{num-part-lt, length-part-le, length-bytesOf}
 use Rattle.fields.proofs.TextLaws.{held, length-padded}
 use Rattle.fields.proofs.StoreLaws.{store-behind}
-use Rattle.lasfile.specs.Records.{Record, recordOf, recordBytes, recordLen}
-use Rattle.lasfile.specs.ReadBack.{SoundRecord}
+use Rattle.lasfile.specs.Records.{Record, recordOf, recordBytes, recordLen, SoundRecord}
 use Rattle.lasfile.proofs.vlr.FieldLaws.{user-of, id-of, description-of, payload-of, length-of}
-use Rattle.release.specs.RecordParts.{nameBytes, contentBytes}
+use Rattle.release.specs.KeptRecords.{nameBytes, contentBytes}
 
 module _ (v : Bytes) (bytes : AllBytes v) where
   payload-low : length (recordOf 2 v .payload) < 256 ^ 2

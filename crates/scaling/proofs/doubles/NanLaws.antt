@@ -1,4 +1,5 @@
--- Laws of NaNs: which doubles and which patterns are a NaN's, for the functions that go between the two. Assumes nothing.
+-- Laws of NaNs: which doubles and which patterns are a NaN's, for the functions that go between the two. Assumes
+-- nothing.
 use mathlib.Core.Path.{_≡_, refl, sym, _∙_, subst}
 use Prim.Native.Nat.{ℕ, _%_, _^_, _≤_, _<_}
 use mathlib.Core.Bool.{Bool, true, false, not}

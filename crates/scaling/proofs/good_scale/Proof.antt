@@ -1,4 +1,5 @@
--- `scaling::good_scale` meets its contract. MIR has each end of the range by its bits, which are read here. Assumes nothing.
+-- `scaling::good_scale` meets its contract. MIR has each end of the range by its bits, which are read here. Assumes
+-- nothing.
 use mathlib.Core.Path.{refl}
 use lib.Ieee.{ofBits, neg}
 use Rattle.scaling.specs.Scaling.{within, goodScale}

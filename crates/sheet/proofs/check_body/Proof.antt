@@ -1,4 +1,5 @@
--- `sheet::check_body` meets its contract. After each test that does not fail the verdict is that of the checks behind it. Assumes nothing.
+-- `sheet::check_body` meets its contract. After each test that does not fail the verdict is that of the checks behind
+-- it. Assumes nothing.
 use mathlib.Core.Path.{_≡_, sym, _∙_}
 use native.Mathlib.Omega.{arith}
 use lib.ListN.{drop}

@@ -1,4 +1,5 @@
--- `sheet::check_sheet` meets its contract. The loop's invariant: the sheet's verdict is that of the rest, where `left` more lines may begin. Assumes nothing.
+-- `sheet::check_sheet` meets its contract. The loop's invariant: the sheet's verdict is that of the rest, where `left`
+-- more lines may begin. Assumes nothing.
 use mathlib.Core.Path.{_≡_, sym, _∙_}
 use native.Mathlib.Omega.{arith}
 use borrow.Author.Needs.{needs}

@@ -5,10 +5,9 @@ use Prim.Native.Nat.{ℕ}
 use mathlib.Core.Bool.{Bool}
 use mathlib.Core.List.{List}
 use Rattle.fields.specs.Bytes.{Bytes, AllBytes}
-use Rattle.points.specs.Formats.{classOf}
-use Rattle.points.proofs.formats.FormatLaws.{class-byte}
-use Rattle.sheet.specs.Keeping.{keepsPoint}
-use Rattle.sheet.specs.Classes.{TableOf, inTable}
+use Rattle.points.specs.Raw.{classOf}
+use Rattle.points.proofs.raw.RawLaws.{class-byte}
+use Rattle.sheet.specs.Keeping.{keepsPoint, TableOf, inTable}
 
 pub table-keeps : (sheet : Bytes) (table : List Bool) → TableOf sheet table → (f : ℕ) (p : Bytes) → AllBytes p → inTable table f p ≡ keepsPoint sheet f p
 unfolding inTable keepsPoint

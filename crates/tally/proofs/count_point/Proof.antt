@@ -1,5 +1,7 @@
--- `tally::count_point` meets its contract: a walk of its MIR, by hand. The borrow is opened, the whole struct is copied out, `with_point` is called, what it returned is stored back whole, and the borrow is closed at that record.
--- No field of the struct is named: that a record's machine value has the struct's MIR type follows from what is owned (`lawful`), and the relation makes what the type owns (`makes`).
+-- `tally::count_point` meets its contract: a walk of its MIR, by hand. The borrow is opened, the whole struct is copied
+-- out, `with_point` is called, what it returned is stored back whole, and the borrow is closed at that record. No field
+-- of the struct is named: that a record's machine value has the struct's MIR type follows from what is owned
+-- (`lawful`), and the relation makes what the type owns (`makes`).
 -- Assumes nothing.
 use mathlib.Core.Path.{_≡_, refl}
 use Prim.Native.Nat.{ℕ}
@@ -38,9 +40,9 @@ use denote.Triple.Clauses.{ensured, lasts}
 use denote.Triple.Table.{entered, cited}
 use denote.Triple.Walked.{says, needs, Stays, stay-ref, stay-none, walkOf, goes-none, goes-ref, Walks, ends-at, walked, walk-meets}
 use denote.Exit.{yes}
-use Rattle.tally.specs.declared.stored.Stored.{Stored}
-use Rattle.tally.proofs.stored.Stored as P
-use Rattle.tally.proofs.stored.Stored.Laws as P′
+use Rattle.points.specs.declared.raw.Stored.{Stored}
+use Rattle.points.proofs.raw.Stored as P
+use Rattle.points.proofs.raw.Stored.Laws as P′
 use Rattle.tally.specs.declared.Tally.{Tally}
 use Rattle.tally.specs.Tally.{tallyWith, CountsUpTo}
 use Rattle.tally.proofs.Tally as T
@@ -126,7 +128,8 @@ module _ {M : Type 1} (𝓤 : URA M) (H : Heap 𝓤) (A : Atoms 𝓤) (W : Given
         move ! (13 ∷ []) $ fsplit ! $ fsplit3 ! $ drop ! $ move ! (15 ∷ []) $ split ! $ move ! (2 ∷ 3 ∷ 0 ∷ []) $
         opens ! tt R {h = h} b o (λ vs. spelt ! R (Is R) (shows 𝓤 H A R) (LL.vals T.the-type T′.the-laws) (LL.tells T.the-type T′.the-laws) fullShare h vs b o $
         move ! (1 ∷ []) $ peeks ! R (Is R) (shows 𝓤 H A R) h (v₀ ∷ []) (λ was. move ! (1 ∷ 0 ∷ []) $
-        -- [0 the struct's cell; 1 what it owns; 2 the open borrow; 3 obs; 4 auth; 5 true; 6 the others'; 7 _5; …; 9 _4; …; 11 _3; …; 13 _2; …; 15 _1; …; 17 room for _0; …]
+        -- [0 the struct's cell; 1 what it owns; 2 the open borrow; 3 obs; 4 auth; 5 true; 6 the others'; 7 _5; …; 9 _4;
+        -- …; 11 _3; …; 13 _2; …; 15 _1; …; 17 room for _0; …]
         assigns ! (of-opd ! (load ! (from ! (hop ! (look ! 15 refl) (stop !))) (look-raw ! 0 refl))) (from ! (stop !)) (init ! 7 refl (LL.lawful T.the-type T′.the-laws 𝓤 H A W .typed h _ was .0)) $
         -- the call; what is passed is a copy
         use0 W (raw (Callee 𝓤 H A at-mem run .pre to-callee)) (goes-in was room) $
@@ -134,7 +137,8 @@ module _ {M : Type 1} (𝓤 : URA M) (H : Heap 𝓤) (A : Atoms 𝓤) (W : Given
         use1 W (later (some (λ (r : Tally). (‵ ftrue ⊛ ‵ (R .own r (v ∷ []))) ⊛ raw (ensured 𝓤 H A callee.ended (callee.clauses 𝓤 H A at-mem run) tt (h, plains) tt r)))) (id⊢ 𝓤 _) $ await ! tt $ pick ! (λ r.
         split ! $ move ! (1 ∷ []) $ use1 W (raw (fact 𝓤 (r ≡ tallyWith h n p))) (exE 𝓤 _ (λ ws. snd∗ 𝓤 (sem 𝓤 H A (lasts callee.ended tt (h, plains) ws)) (fact 𝓤 (r ≡ tallyWith h n p)))) $
         heard ! (r ≡ tallyWith h n p) (λ e. split ! $ drop ! $ peeks ! R (Is R) (shows 𝓤 H A R) r (v ∷ []) (λ is.
-        -- [0 what the result owns; 1 the struct's cell; 2 what it owned; 3 the open borrow; …; 8 _5; …; 10 _4; …; 16 _1; …; 18 room for _0; …]
+        -- [0 what the result owns; 1 the struct's cell; 2 what it owned; 3 the open borrow; …; 8 _5; …; 10 _4; …; 16
+        -- _1; …; 18 room for _0; …]
         land ! (from ! (stop !)) (init ! 10 refl (LL.lawful T.the-type T′.the-laws 𝓤 H A W .typed r _ is .0)) $
         assigns ! (of-opd ! (load ! (from ! (stop !)) (look ! 10 refl))) (from ! (hop ! (look ! 16 refl) (stop !))) (store-raw ! 1 refl (LL.lawful T.the-type T′.the-laws 𝓤 H A W .typed r _ is .0)) $
         assigns ! (of-opd ! (unit-lit !)) (from ! (stop !)) (init ! 18 refl (tt, tt)) $

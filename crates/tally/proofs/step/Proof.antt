@@ -1,5 +1,6 @@
--- `tally::step` meets its contract: a walk of its MIR, by hand. A local of one's own is lent for one call of `count_point` (`Local.antt`), and comes back at what that call ensures.
--- Of `count_point` it knows only that it meets its contract. Assumes nothing.
+-- `tally::step` meets its contract: a walk of its MIR, by hand. A local of one's own is lent for one call of
+-- `count_point` (`Local.antt`), and comes back at what that call ensures. Of `count_point` it knows only that it meets
+-- its contract. Assumes nothing.
 use mathlib.Core.Path.{_≡_, refl}
 use Prim.Native.Nat.{ℕ}
 use mathlib.Core.List.{[], _∷_, List}
@@ -36,9 +37,9 @@ use denote.Triple.Clauses.{ensured, lasts}
 use denote.Triple.Table.{entered, cited}
 use denote.Triple.Walked.{says, needs, Stays, stay-none, walkOf, goes-none, Walks, ends-at, walked, walk-meets}
 use denote.Exit.{yes}
-use Rattle.tally.specs.declared.stored.Stored.{Stored}
-use Rattle.tally.proofs.stored.Stored as P
-use Rattle.tally.proofs.stored.Stored.Laws as P′
+use Rattle.points.specs.declared.raw.Stored.{Stored}
+use Rattle.points.proofs.raw.Stored as P
+use Rattle.points.proofs.raw.Stored.Laws as P′
 use Rattle.tally.specs.declared.Tally.{Tally}
 use Rattle.tally.specs.Tally.{tallyWith, CountsUpTo}
 use Rattle.tally.proofs.Tally as T
@@ -118,14 +119,16 @@ module _ {M : Type 1} (𝓤 : URA M) (H : Heap 𝓤) (A : Atoms 𝓤) (W : Given
         enter ! C Λ code.function (val h ∷ vint w8 n ∷ p₀ ∷ []) _ $
         alloc1 ! (λ l₀. alloc1 ! (λ l₁. alloc1 ! (λ l₂. alloc1 ! (λ l₃. alloc1 ! (λ l₄. alloc1 ! (λ l₅. alloc1 ! (λ l₆. alloc0 ! $ params1 ! $
         pass1 ! (init ! 10 refl (LL.lawful T.the-type T′.the-laws 𝓤 H A W .typed h _ h-is .0)) $ pass1 ! (init ! 8 refl (uint-lawful 𝓤 H A W w8 .typed n _ n-is .0)) $ pass1 ! (init ! 6 refl (LL.lawful P.the-type P′.the-laws 𝓤 H A W .typed p _ p-is .0)) $ pass0 ! $
-        -- [0 _6; …; 2 _5; …; 4 _4; …; 6 _3; …; 8 _2; …; 10 _1; …; 12 room for _0; …; 14 true; 15 what the parameters own]
+        -- [0 _6; …; 2 _5; …; 4 _4; …; 6 _3; …; 8 _2; …; 10 _1; …; 12 room for _0; …; 14 true; 15 what the parameters
+        -- own]
         assigns ! (of-opd ! (load ! (from ! (stop !)) (look ! 10 refl))) (from ! (stop !)) (init ! 4 refl (LL.lawful T.the-type T′.the-laws 𝓤 H A W .typed h _ h-is .0)) $
         assigns ! (addr ! (from ! (stop !))) (from ! (stop !)) (init ! 0 refl (tt, tt)) $
         -- the local _4 is lent for a lifetime ν of the call
         lft-new ! tt (λ ν. move ! (5 ∷ []) $
         use1 W (later (some (λ (δ : GName). ‵ (owned-ref l₄ ν δ) ⊛ ‵ (flent (ν ∷ []) (Body (mem R) l₄ 0 δ))))) (lends-local T.the-type T′.the-laws T′.the-plain 𝓤 H A W h l₄ 0 (named 0) (ν ∷ []) h-is) $ await ! tt $ pick ! (λ δ. split ! $
         move ! (2 ∷ 0 ∷ []) $ use2 W (raw (Callee 𝓤 H A at-mem run .pre (to-callee l₄ ν δ))) (goes-in room l₄ ν δ) $
-        -- [0 what the callee asks; 1 the lender's part; 2 _6; …; 4 _5; …; 6 (that _4 dies); 7 _3; …; 9 _2; …; 11 _1; …; 13 room for _0; …]
+        -- [0 what the callee asks; 1 the lender's part; 2 _6; …; 4 _5; …; 6 (that _4 dies); 7 _3; …; 9 _2; …; 11 _1; …;
+        -- 13 room for _0; …]
         calls-at ! fm (Callee 𝓤 H A at-mem run) known (to-callee l₄ ν δ) (and-then ! (load ! (from ! (stop !)) (look ! 2 refl)) (and-then ! (load ! (from ! (stop !)) (look ! 9 refl)) (and-then ! (load ! (from ! (stop !)) (look ! 7 refl)) (no-more !)))) (λ v.
         use1 W (later (some (λ (r : Unit {0}). ((‵ (flft (ν ∷ []) fullShare) ⊛ ‵ ftrue) ⊛ ‵ (Nothing .own r (v ∷ []))) ⊛ raw (ensured 𝓤 H A callee.ended (callee.clauses 𝓤 H A at-mem run) (ν ∷ [], tt) (ref l₄ δ, plains) tt r)))) (id⊢ 𝓤 _) $ await ! tt $ pick ! (λ r.
         -- what the callee ensures, at some last value of the local

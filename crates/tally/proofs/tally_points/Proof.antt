@@ -1,7 +1,7 @@
 -- `tally::tally_points` meets its contract. Assumes nothing.
 use mathlib.Core.Path.{sym, ap, _∙_}
 use lib.ListN.{length}
-use Rattle.tally.proofs.point_runs.RunLaws.{in-run, points-held, points-none}
+use Rattle.points.proofs.raw.RunLaws.{in-run, points-held, points-none}
 use Rattle.tally.specs.Tally.{tallyOf}
 use Rattle.tally.proofs.tally_points.Statement.{statement}
 use Rattle.tally.proofs.tally_points.Tie as tie
@@ -10,7 +10,7 @@ tally-run-requires : tie.Need-tally-run-requires
 tally-run-requires c κs =
     let a = c .before .before .before .args in
     let h = in-run (a .count) (a .record-length) (length (a .run .now)) (sym (c .before .holds .ensures) ∙ c .if1 .taken) in
-    (h .long, h .few, h .within)
+    (h .few, h .within)
 
 returns : tie.Need-returns
 returns c =

@@ -1,9 +1,7 @@
 -- `tally::tally_run` meets its contract. The invariant of its loop is `Running`. Assumes nothing.
-use mathlib.Core.Path.{_≡_}
 use Prim.Native.Nat.{_+_, _-_, _≤_}
 use native.Mathlib.Omega.{arith}
-use lib.ListN.{length, take, drop, length-drop}
-use lib.Seq.{length-take-le}
+use lib.ListN.{length}
 use Rattle.tally.proofs.CountLaws.{counts-up}
 use Rattle.tally.proofs.RunLaws.{Running, start, ended, next-in, turned}
 use Rattle.tally.proofs.tally_run.Statement.{statement}
@@ -19,7 +17,7 @@ loop-holds : tie.Need-loop-holds Inv-loop μ-loop
 loop-holds c =
     let s = c .before .before in
     let a = s .args in
-    rw (c .fresh .ensures) (start (a .format) (a .record-length) (a .run .now) (a .count) (s .pre .2))
+    rw (c .fresh .ensures) (start (a .format) (a .record-length) (a .run .now) (a .count) (s .pre .1))
 
 -- in a turn the next record lies within the run
 inside : (c : tie.In-loop Inv-loop μ-loop) → c .before .loop .at + c .before .before .before .before .args .record-length ≤ length (c .before .before .before .before .args .run .now)
@@ -43,12 +41,8 @@ part-add-point-end c = omega (arith, inside c)
 add-point-requires : tie.Need-add-point-requires Inv-loop μ-loop
 add-point-requires c κs =
     let s = c .before .before .before .before .before in
-    let a = s .args in
     let l = c .before .before .loop in
-    let n : l .at + a .record-length - l .at ≡ a .record-length = omega arith in
-    let long : length (take (a .record-length) (drop (l .at) (a .run .now))) ≡ a .record-length =
-    length-take-le (a .record-length) (drop (l .at) (a .run .now)) (simp length-drop (omega (arith, inside (c .before)))) in
-    (counts-up (l .t) (a .count - l .left) 4294967295 (l .inv .counts) (omega (arith, s .pre .1)), rw (n, long) (s .pre .0))
+    counts-up (l .t) (s .args .count - l .left) 4294967295 (l .inv .counts) (omega (arith, s .pre .0))
 
 sub-left : tie.Need-sub-left Inv-loop μ-loop
 sub-left c = omega arith

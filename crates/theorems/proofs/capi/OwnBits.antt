@@ -9,13 +9,13 @@ use Rattle.theorems.specs.Coordinates.{Axis, X, Y, Z, axisScale, axisOff
 use Rattle.theorems.proofs.scaling.CoordinateTheorems.{carried}
 use Rattle.lasfile.specs.FileChecks.{fileVerdict}
 use Rattle.lasfile.proofs.Passed.{passed}
-use Rattle.reader.specs.Header.{headerOf, fieldsIf, headerRead}
-use Rattle.capi.specs.HeaderAnswers.{scaleNumbers, offsetNumbers, headerFields, headerNumbers}
+use Rattle.reader.specs.Header.{headerOf, headerIf, headerRead}
+use Rattle.capi.specs.HeaderAnswers.{scaleNumbers, offsetNumbers, foundHeader, headerNumbers}
 use Rattle.capi.specs.declared.header.«las_header».{«las_header»}
 use Rattle.capi.specs.Interface.{lasReadHeader}
 
-read : (file : Bytes) → fileVerdict file ≡ Passes → lasReadHeader file ≡ headerFields (headerOf file)
-unfolding lasReadHeader headerRead fieldsIf headerNumbers
+read : (file : Bytes) → fileVerdict file ≡ Passes → lasReadHeader file ≡ foundHeader (headerOf file)
+unfolding lasReadHeader headerRead headerIf headerNumbers
 read file e = rw e refl
 
 three : {a b c x y z : ℕ} → a ≡ x → b ≡ y → c ≡ z → _≡_ {A = List ℕ} (a ∷ b ∷ c ∷ []) (x ∷ y ∷ z ∷ [])
@@ -25,7 +25,7 @@ by-bits : (file : Bytes) → AllBytes file → fileVerdict file ≡ Passes → (
 by-bits file h e = carried file h (passed file e .scaled)
 
 pub own-bits : OwnBits
-unfolding headerFields headerOf scaleNumbers offsetNumbers axisScale axisOffset scalePlace offsetPlace
+unfolding foundHeader headerOf scaleNumbers offsetNumbers axisScale axisOffset scalePlace offsetPlace
 own-bits =
     record {
       scales =

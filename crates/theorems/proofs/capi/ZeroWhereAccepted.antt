@@ -20,14 +20,14 @@ use Rattle.reader.specs.declared.cursor.RecordPlaces.{RecordPlaces}
 use Rattle.reader.specs.declared.cursor.VlrCursor.{VlrCursor}
 use Rattle.reader.specs.OnePoint.{pointChecks, pointIf, pointAtOf}
 use Rattle.sheet.specs.Sheet.{sheetVerdict}
-use Rattle.sheet.specs.KeptAnswers.{keptUnder}
+use Rattle.sheet.specs.Keeping.{keptUnder}
 use Rattle.geokeys.specs.GeoKeys.{directoryChecks, entryChecks, doubleChecks, textChecks, answerIf, either, doubleIn, textIn, inParameters, fromEntry, fromDirectory, lookup, locationOf, payloadAt, entryOf, projectionPlace}
 use Rattle.geokeys.specs.declared.GeoKey.{GeoKey}
 use Rattle.publicpart.specs.Release.{Outcome, refuseOr, shortOr, accepted, roomOr, release}
 use Rattle.capi.specs.Answers.{releasedNumbers, keptNumbers}
-use Rattle.capi.specs.RecordAnswers.{recordFields, noRecord, recordNumbers, geokeyNumbers}
-use Rattle.capi.specs.PointAnswers.{pointFields, noPoint, pointNumbers, decodedNumbers}
-use Rattle.capi.specs.HeaderAnswers.{headerFields, noHeader, headerNumbers}
+use Rattle.capi.specs.RecordAnswers.{foundRecord, noRecord, recordNumbers, geokeyNumbers}
+use Rattle.capi.specs.PointAnswers.{foundPoint, noPoint, pointNumbers, decodedNumbers}
+use Rattle.capi.specs.HeaderAnswers.{foundHeader, noHeader, headerNumbers}
 use Rattle.capi.specs.Interface.{lasCheckFile, lasCheckSheet, lasReadHeader, lasVlrStep, lasPointAt, lasDecode, lasEncode, lasClassKept, lasRecordKept, lasGeokeyFind, lasRelease}
 use Rattle.theorems.specs.ZeroWhereAccepted.{isPassing, hasFields, hasRecord, hasPoint, isDecoded, isFound, isReleased, isZero, ZeroWhereAccepted}
 use Rattle.theorems.proofs.capi.NumberLaws.{Numbered, Without, first-numbered, then-numbered, file-numbered, sheet-numbered}
@@ -35,26 +35,26 @@ use Rattle.theorems.proofs.capi.NumberLaws.{Numbered, Without, first-nu
 -- ---- an answer that a verdict decides
 
 header-if : (v : Verdict) (h : Header) → Numbered v
-    → isZero (headerNumbers (header.fieldsIf v h) .number) ≡ hasFields (header.fieldsIf v h)
-unfolding header.fieldsIf headerNumbers headerFields noHeader hasFields Numbered isPassing numberOf isZero
+    → isZero (headerNumbers (header.headerIf v h) .number) ≡ hasFields (header.headerIf v h)
+unfolding header.headerIf headerNumbers foundHeader noHeader hasFields Numbered isPassing numberOf isZero
 header-if Passes h e = refl
 header-if (Fails n) h e = e
 
 record-if : (v : Verdict) (r : RecordPlaces) (next : VlrCursor) → Numbered v
     → isZero (recordNumbers (recordIf v r next) .number) ≡ hasRecord (recordIf v r next)
-unfolding recordIf recordNumbers recordFields noRecord hasRecord Numbered isPassing numberOf isZero
+unfolding recordIf recordNumbers foundRecord noRecord hasRecord Numbered isPassing numberOf isZero
 record-if Passes r next e = refl
 record-if (Fails n) r next e = e
 
 point-if : (v : Verdict) (at : ℕ) (p : Point) → Numbered v
     → isZero (pointNumbers (pointIf v at p) .number) ≡ hasPoint (pointIf v at p)
-unfolding pointIf pointNumbers pointFields noPoint hasPoint Numbered isPassing numberOf isZero
+unfolding pointIf pointNumbers foundPoint noPoint hasPoint Numbered isPassing numberOf isZero
 point-if Passes at p e = refl
 point-if (Fails n) at p e = e
 
 decoded-if : (v : Verdict) (p : Point) → Numbered v
     → isZero (decodedNumbers (points.fieldsIf v p) .number) ≡ isDecoded (points.fieldsIf v p)
-unfolding points.fieldsIf decodedNumbers pointFields noPoint isDecoded Numbered isPassing numberOf isZero
+unfolding points.fieldsIf decodedNumbers foundPoint noPoint isDecoded Numbered isPassing numberOf isZero
 decoded-if Passes p e = refl
 decoded-if (Fails n) p e = e
 

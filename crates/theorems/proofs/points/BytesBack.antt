@@ -12,23 +12,18 @@ use mir.Val.{toZ, ofZ, bits as widthBits}
 use mir.ValLaws.{ofZ-toZ}
 use Rattle.fields.specs.Lists.{total}
 use Rattle.fields.specs.Bytes.{Bytes, AllBytes, part, num, bytesOf, join}
-use Rattle.fields.proofs.ByteLaws.{bytesOf-num, drop-bytes, num-part-lt, num-part-one, length-part}
+use Rattle.fields.proofs.ByteLaws.{take-bytes, bytesOf-num, drop-bytes, num-part-lt, num-part-one, length-part}
 use Rattle.points.specs.declared.formats.Place.{Place}
 use Rattle.points.specs.declared.formats.Place.the-variants.{At, Absent}
 use Rattle.points.specs.Formats.{formatSize, timePlace, colourPlace}
 use Rattle.points.proofs.formats.FormatLaws.{Follows, widthIf, layered}
-use Rattle.points.specs.Points.{bits, numberAt, pointOf, bit}
+use Rattle.points.specs.Points.{numberAt, pointOf, bit}
+use Rattle.points.specs.Raw.{bits, returnOf, classOf, stored}
 use Rattle.points.specs.Shared.{flagByte, sharedFields}
 use Rattle.points.specs.Encoding.{ifPlaced, timeFields, colours, colourFields, pointBytes}
 use Rattle.points.proofs.encoding.LayoutLaws.{sharedWidths, bytes-groups}
 
 -- ---- one field
-
-take-bytes : (w : ℕ) (s : Bytes) → AllBytes s → AllBytes (take w s)
-take-bytes zero s h i = omega arith
-take-bytes (suc w) [] h i = h i
-take-bytes (suc w) (b ∷ bs) h zero = h 0
-take-bytes (suc w) (b ∷ bs) h (suc i) = take-bytes w bs (λ j. h (suc j)) i
 
 part-bytes : (at w : ℕ) (s : Bytes) → AllBytes s → AllBytes (part at w s)
 unfolding part
@@ -61,7 +56,7 @@ bit-back (suc zero) h = refl
 bit-back (suc (suc n)) h = absurd (omega arith)
 
 flags-back : (f : ℕ) (s : Bytes) → getD s 14 0 < 256 → flagByte (pointOf f s) ≡ getD s 14 0
-unfolding flagByte pointOf bits
+unfolding flagByte pointOf bits returnOf
 flags-back f s h =
     let b = getD s 14 0 in
     omega (arith, bit-back (b / 64 % 2) (omega arith), bit-back (b / 128 % 2) (omega arith))
@@ -115,7 +110,7 @@ module _ (f : ℕ) (s : Bytes) (all : AllBytes s) where
   angle-part h = rw (← num-part-one 16 s) (signed-back s all w8 16 1 refl (omega arith))
 
   shared-parts : 20 ≤ length s → sharedFields (pointOf f s) ≡ partsFrom 0 sharedWidths s
-  unfolding sharedFields pointOf
+  unfolding sharedFields pointOf stored classOf
   shared-parts h =
       rw (
         signed-back s all w32 0 4 refl (omega arith),

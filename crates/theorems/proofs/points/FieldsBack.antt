@@ -18,7 +18,8 @@ use Rattle.points.specs.declared.formats.Place.the-variants.{At, Absent}
 use Rattle.points.specs.Formats.{timePlace, colourPlace}
 use Rattle.points.proofs.formats.FormatLaws.{Follows, widthIf, layered}
 use Rattle.points.specs.declared.Point.{Point}
-use Rattle.points.specs.Points.{bits, numberAt, pointOf, bit}
+use Rattle.points.specs.Points.{numberAt, pointOf, bit}
+use Rattle.points.specs.Raw.{bits, stored, returnOf, classOf}
 use Rattle.points.specs.Shared.{flagByte, sharedFields}
 use Rattle.points.specs.Encoding.{ifPlaced, timeFields, colours, colourFields, valueIf, blank, InRange}
 use Rattle.points.proofs.encoding.LayoutLaws.{sharedWidths, shared-fit, length-shared, length-time}
@@ -91,7 +92,7 @@ module _ (q : Point) (rest : Bytes) where
 
 pub fields-back : (f : ℕ) (q : Point) (rest : Bytes) → InRange q → q .«return_number» ≤ 7 → q .returns ≤ 7
     → pointOf f (join (sharedFields q) ++ (join (timeFields (timePlace f) q) ++ (join (colourFields (colourPlace f) q) ++ rest))) ≡ blank f q
-unfolding pointOf blank sharedFields timeFields colourFields colours
+unfolding pointOf blank sharedFields timeFields colourFields colours stored returnOf classOf
 fields-back f q rest r small few =
     let t = timePlace f in
     let k = colourPlace f in

@@ -16,7 +16,8 @@ use Rattle.fields.proofs.CheckLaws.{none-fails, unclear}
 use Rattle.points.specs.Formats.{formatSize, timePlace, colourPlace}
 use Rattle.points.specs.declared.Point.{Point}
 use Rattle.points.specs.declared.Decoded.the-variants.{Fields}
-use Rattle.points.specs.Points.{bits, pointOf, shape, decodeChecks, fieldsIf, decoded}
+use Rattle.points.specs.Points.{pointOf, shape, decodeChecks, fieldsIf, decoded}
+use Rattle.points.specs.Raw.{bits, returnOf}
 use Rattle.points.specs.Shared.{sharedFields}
 use Rattle.points.specs.Encoding.{timeFields, colourFields, pointBytes, large, encodeChecks, storedIf, encoded, blank, InRange}
 use Rattle.theorems.specs.RoundTrips.{RoundTrips}
@@ -52,7 +53,7 @@ was-decoded f len s q e =
 
 -- three bits are at most 7
 not-large : (f : ℕ) (s : Bytes) → Clear (large (pointOf f s))
-unfolding pointOf bits large
+unfolding pointOf bits large returnOf
 not-large f s = (omega arith, omega arith)
 
 front-stored : (b room : Bytes) (n : ℕ) → length b ≡ n → n ≤ length room → sets room 0 b ≡ b ++ drop n room

@@ -9,6 +9,6 @@ unfolding releasedNumbers
 released-of-spec =
     tie.close
     (tie.spec (λ c. search needs) (λ c κs. tt) (λ c. search needs) (λ c κs. tt) (λ c. search needs) (λ c κs. tt)
-    (λ c. rw (c .before .before .answer .given .1) (c .accepted .ensures))
+    (λ c. rw (c .before .before .answer .given .1) (c .released .ensures))
     (λ c. rw (c .before .before .answer2 .given .1) (c .refused .ensures))
     (λ c. rw (c .before .before .answer3 .given .1) (c .refused2 .ensures)))

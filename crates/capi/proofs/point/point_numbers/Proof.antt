@@ -2,12 +2,12 @@
 use mathlib.Core.Path.{refl}
 use mir.Syntax.{w8, w32}
 use mir.ValLaws.{toZ-ofZ}
-use Rattle.capi.specs.PointAnswers.{pointFields}
+use Rattle.capi.specs.PointAnswers.{foundPoint}
 use Rattle.capi.proofs.point.point_numbers.Statement.{statement}
 use Rattle.capi.proofs.point.point_numbers.Tie as tie
 
 returns : tie.Need-returns
-unfolding pointFields
+unfolding foundPoint
 returns c =
     let p = c .before .before .before .args .point in
     let told = c .struct-told .given in

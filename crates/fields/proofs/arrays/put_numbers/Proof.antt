@@ -1,4 +1,5 @@
--- `arrays::put_numbers` meets its contract. The loop's invariant: what the numbers still to write make of the output is what all make of it.
+-- `arrays::put_numbers` meets its contract. The loop's invariant: what the numbers still to write make of the output is
+-- what all make of it.
 -- Assumes nothing.
 use Prim.Native.Nat.{_-_}
 use native.Mathlib.Omega.{arith}

@@ -1,4 +1,5 @@
--- `copying::copy_16` meets its contract. The first loop's invariant: each byte of the block so far is the source's. The second's: `dst` is what it was with the first k bytes pasted in.
+-- `copying::copy_16` meets its contract. The first loop's invariant: each byte of the block so far is the source's. The
+-- second's: `dst` is what it was with the first k bytes pasted in.
 -- Assumes nothing.
 use mathlib.Core.Path.{_≡_, refl, ap, _∙_}
 use Prim.Native.Nat.{ℕ, _+_, _-_, _≤_, _<_}

@@ -1,4 +1,5 @@
--- `copying::copy_blocks` meets its contract. The invariant of its loop: `dst` is what it was with the first i bytes pasted in. The last block is pasted over the end of that.
+-- `copying::copy_blocks` meets its contract. The invariant of its loop: `dst` is what it was with the first i bytes
+-- pasted in. The last block is pasted over the end of that.
 -- Assumes nothing.
 use mathlib.Core.Path.{_≡_, refl, ap, _∙_}
 use Prim.Native.Nat.{ℕ, _+_, _-_, _≤_}

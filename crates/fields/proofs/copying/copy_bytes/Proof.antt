@@ -1,4 +1,5 @@
--- `copying::copy_bytes` meets its contract. The invariant of its loop: `dst` is what it was with the first i bytes pasted in, and is as long as it was.
+-- `copying::copy_bytes` meets its contract. The invariant of its loop: `dst` is what it was with the first i bytes
+-- pasted in, and is as long as it was.
 -- Assumes nothing.
 use mathlib.Core.Path.{_≡_, refl, ap, _∙_}
 use mathlib.Core.List.{List}

@@ -1,4 +1,5 @@
--- `fields::numbers::number_within` meets its contract. The loop goes from the highest byte down: r is the number of the bytes from place at + i on.
+-- `fields::numbers::number_within` meets its contract. The loop goes from the highest byte down: r is the number of the
+-- bytes from place at + i on.
 -- Assumes nothing.
 use mathlib.Core.Path.{_≡_, sym, _∙_}
 use Prim.Native.Nat.{ℕ, suc, zero-le, _+_, _-_, _*_, _^_, _≤_, _<_}

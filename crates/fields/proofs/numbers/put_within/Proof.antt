@@ -1,4 +1,5 @@
--- `fields::numbers::put_within` meets its contract. The loop's invariant: what the bytes still to write make of s is what all make of it.
+-- `fields::numbers::put_within` meets its contract. The loop's invariant: what the bytes still to write make of s is
+-- what all make of it.
 -- Assumes nothing.
 use mathlib.Core.Path.{_≡_, refl, sym, _∙_}
 use Prim.Native.Nat.{ℕ, suc, _+_, _-_, _/_, _%_, _≤_, _<_}

@@ -1,4 +1,5 @@
--- `slices::same_bytes` meets its contract. The loop's invariant: whether the runs are equal is whether the rests from i on are.
+-- `slices::same_bytes` meets its contract. The loop's invariant: whether the runs are equal is whether the rests from i
+-- on are.
 -- Assumes nothing.
 use mathlib.Core.Path.{_≡_, refl, sym, ap, _∙_}
 use mathlib.Core.Bool.{Bool, true, false, _&&_}

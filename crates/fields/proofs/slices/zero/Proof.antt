@@ -1,4 +1,5 @@
--- `slices::zero` meets its contract. The loop's invariant: what the zeros still to write make of dst is what all make of it.
+-- `slices::zero` meets its contract. The loop's invariant: what the zeros still to write make of dst is what all make
+-- of it.
 -- Assumes nothing.
 use mathlib.Core.Path.{_≡_, refl, sym, ap, _∙_}
 use Prim.Native.Nat.{ℕ, zero, suc, _+_, _-_, _≤_, _<_, min}

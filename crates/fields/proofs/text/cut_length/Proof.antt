@@ -1,4 +1,5 @@
--- `text::cut_length` meets its contract. The loop's invariant: the cut is i bytes and the cut of the rest. Assumes nothing.
+-- `text::cut_length` meets its contract. The loop's invariant: the cut is i bytes and the cut of the rest. Assumes
+-- nothing.
 use mathlib.Core.Path.{_≡_}
 use Prim.Native.Nat.{_+_, _-_, _≤_}
 use native.Mathlib.Omega.{arith}

@@ -13,8 +13,8 @@ use Rattle.points.proofs.common.RoomLaws.{then-more, last-field}
 use Rattle.points.proofs.common.put_shared.Statement.{statement}
 use Rattle.points.proofs.common.put_shared.Tie as tie
 
-cast-bits-of : tie.Need-cast-bits-of
-cast-bits-of c =
+cast-signed-bits : tie.Need-cast-signed-bits
+cast-signed-bits c =
     cast-wider w8 w32 (omega arith) (c .before .before .before .args .point .«scan_angle»)
     (record { sfits = c .struct-told .given .1 .1 .1 .1 .1 .1 .1 .1 .1 .0 .1 })
 
@@ -33,11 +33,11 @@ returns c =
     let first = p1 .before .before .before .before in
     let q = first .before .before .before .before .args .point in
     let angle =
-    ap (bytesOf 1) (first .bits-of .ensures)
+    ap (bytesOf 1) (first .signed-bits .ensures)
     ∙ passed-byte (q .«scan_angle») (record { sfits = first .before .struct-told .given .1 .1 .1 .1 .1 .1 .1 .1 .1 .0 .1 }) in
-    let x = p1 .before .bits-of2 .ensures ∙ passed w32 (q .x) (record { sfits = p1 .before .before .struct-told2 .given .0 .1 }) in
-    let y = p2 .before .bits-of3 .ensures ∙ passed w32 (q .y) (record { sfits = p2 .before .before .struct-told3 .given .1 .0 .1 }) in
-    let z = p3 .before .bits-of4 .ensures ∙ passed w32 (q .z) (record { sfits = p3 .before .before .struct-told4 .given .1 .1 .0 .1 }) in
+    let x = p1 .before .signed-bits2 .ensures ∙ passed w32 (q .x) (record { sfits = p1 .before .before .struct-told2 .given .0 .1 }) in
+    let y = p2 .before .signed-bits3 .ensures ∙ passed w32 (q .y) (record { sfits = p2 .before .before .struct-told3 .given .1 .0 .1 }) in
+    let z = p3 .before .signed-bits4 .ensures ∙ passed w32 (q .z) (record { sfits = p3 .before .before .struct-told4 .given .1 .1 .0 .1 }) in
     let intensity : p4 .put-number4 .last .0 ≡ sets (p3 .put-number3 .last .0) 12 (bytesOf 2 (q .intensity)) = p4 .put-number4 .ensures in
     let class : p6 .put-number6 .last .0 ≡ sets (p5 .put-number5 .last .0) 15 (bytesOf 1 (q .«class_byte»)) = p6 .put-number6 .ensures in
     let user : p8 .put-number8 .last .0 ≡ sets (p7 .put-number7 .last .0) 17 (bytesOf 1 (q .«user_data»)) = p8 .put-number8 .ensures in
@@ -59,7 +59,7 @@ pub put-shared-spec : {M : Type 1} → statement M
 put-shared-spec =
     tie.close
     (tie.spec
-    cast-bits-of
+    cast-signed-bits
     (λ c κs. tt)
     (λ c κs. tt)
     (λ c κs. tt)

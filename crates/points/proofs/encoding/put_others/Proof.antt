@@ -4,9 +4,8 @@ use denote.Ref.{now}
 use borrow.Author.Needs.{needs}
 use mathlib.Core.List.{[], _∷_}
 use Rattle.fields.specs.Bytes.{bytesOf}
-use Rattle.points.specs.Formats.{timePlace, colourPlace}
+use Rattle.points.specs.Formats.{timePlace, colourPlace, layoutOf}
 use Rattle.points.specs.declared.layouts.Layout.{Layout}
-use Rattle.points.specs.Layouts.{layoutOf}
 use Rattle.points.specs.Encoding.{timeFields, colours, colourFields}
 use Rattle.points.proofs.common.RoomLaws.{alone}
 use Rattle.points.proofs.encoding.RoomLaws.{placed}

@@ -2,7 +2,7 @@
 use mathlib.Core.Path.{refl, sym}
 use native.Mathlib.Omega.{arith}
 use Rattle.points.proofs.formats.FormatLaws.{sizes, above}
-use Rattle.points.proofs.layouts.PartsLaws.{layout-is}
+use Rattle.points.proofs.layouts.LayoutLaws.{layout-is}
 use Rattle.points.proofs.layouts.layout_of.Statement.{statement}
 use Rattle.points.proofs.layouts.layout_of.Tie as tie
 

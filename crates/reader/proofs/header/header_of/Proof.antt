@@ -9,7 +9,7 @@ returns c =
     λ i. record {
       identity = c .before .before .before .before .before .identity-of .ensures i;
       creation = c .before .before .before .before .creation-of .ensures i;
-      layout = c .before .before .before .layout-of .ensures i;
+      layout = c .before .before .before .file-layout-of .ensures i;
       «by_return» = c .before .before .by-return-of .ensures i;
       scaling = c .before .read .ensures i;
       bounds = c .stated-bounds .ensures i;

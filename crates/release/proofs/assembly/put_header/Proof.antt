@@ -4,7 +4,7 @@ use denote.Ref.{now}
 use lib.ListN.{drop}
 use lib.Seq.{sets}
 use Rattle.lasfile.specs.HeaderFields.{format, recordLength}
-use Rattle.tally.specs.PointRuns.{pointsOf}
+use Rattle.points.specs.Raw.{pointsOf}
 use Rattle.tally.specs.Tally.{tallyOf}
 use Rattle.release.specs.declared.head.HeadTotals.{HeadTotals}
 use Rattle.release.specs.Heads.{headBytes}

@@ -5,10 +5,9 @@ use lib.ListN.{length, drop}
 use Rattle.fields.specs.Bytes.{part}
 use Rattle.scaling.specs.declared.Bounds.{Bounds}
 use Rattle.lasfile.specs.HeaderFields.{format, recordLength}
-use Rattle.tally.specs.PointRuns.{pointsOf}
+use Rattle.points.specs.Raw.{pointsOf}
 use Rattle.tally.specs.declared.Tally.{Tally}
-use Rattle.tally.specs.Tally.{tallyOf}
-use Rattle.tally.specs.TallyBounds.{tallyBounds}
+use Rattle.tally.specs.Tally.{tallyOf, tallyBounds}
 use Rattle.release.proofs.vlrs.KeptLaws.{from-place}
 use Rattle.release.specs.Assembly.{totalsOf}
 use Rattle.release.proofs.assembly.totals_of.Statement.{statement}

@@ -4,7 +4,7 @@ use denote.Ref.{now}
 use lib.ListN.{length}
 use lib.Seq.{take-nil}
 use Rattle.fields.specs.Bytes.{join}
-use Rattle.tally.proofs.point_runs.RunLaws.{Held, in-run}
+use Rattle.points.proofs.raw.RunLaws.{Held, in-run}
 use Rattle.release.proofs.kept_points.KeptPointLaws.{kept-held, kept-none}
 use borrow.Author.Needs.{needs}
 use Rattle.release.proofs.copier.copy_front.Statement.{statement}

@@ -6,7 +6,7 @@ use borrow.Author.Needs.{needs}
 use denote.Ref.{now}
 use lib.ListN.{length, take, drop}
 use lib.Seq.{sets}
-use Rattle.sheet.specs.Classes.{inTable}
+use Rattle.sheet.specs.Keeping.{inTable}
 use Rattle.release.proofs.kept_points.LoopLaws.{lent-record, ends}
 use Rattle.release.proofs.copier.CopyLaws.{Copied, copy-begun, copy-next, copy-ended}
 use Rattle.release.proofs.copier.copy_run.Statement.{statement}
@@ -40,7 +40,7 @@ part-point-end c = omega (arith, inside c)
 add-to : tie.Need-add-to Inv-loop μ-loop
 add-to c =
     let turn = c .before .before .before .before .before .before .before in
-    omega (arith, inside turn, turn .before .loop .inv .behind, c .step .ensures .1)
+    omega (arith, inside turn, turn .before .loop .inv .behind, c .advance .ensures .1)
 
 sub-left : tie.Need-sub-left Inv-loop μ-loop
 sub-left c = omega arith
@@ -57,7 +57,7 @@ loop-again c =
     let lent = take (l .at + a .record-length - l .at) (drop (l .at) (now (a .run))) in
     let kept : c .before .before .before .before .before .in-table .result ≡ keep lent = c .before .before .before .before .before .in-table .ensures in
     let point = lent-record (l .at) (a .record-length) (now (a .run)) in
-    rw (c .step .ensures .0)
+    rw (c .advance .ensures .0)
     (copy-next keep (a .record-length) (a .count) (now (a .run)) (now (a .out)) (l .out) (l .left) (l .at) (l .to) (l .inv) (turn .loop-test .taken) _
     (kept ∙ ap keep point) _ (c .before .before .before .copy .ensures ∙ ap (sets (l .out) (l .to)) point))
 

@@ -1,7 +1,7 @@
 -- `head::put_front` meets its contract. Assumes nothing.
 use mathlib.Core.Path.{sym, ap, _∙_, refl}
 use lib.ListN.{take}
-use Rattle.fields.specs.Text.{cut, padded}
+use Rattle.fields.specs.Text.{padded}
 use Rattle.publicpart.specs.Head.{headWidths, headFields}
 use Rattle.publicpart.proofs.PublicLaws.{carried-ids, carried-system, carried-software}
 use Rattle.release.specs.Heads.{headWith}
@@ -14,8 +14,8 @@ returns : tie.Need-returns
 unfolding headWith
 returns c t =
     let software = c .before .before in
-    let system = software .before .before .before .before .before in
-    let version = system .before .before .before .before .before in
+    let system = software .before .before .before .before in
+    let version = system .before .before .before .before in
     let ids = version .before .before .before .before .before in
     let signature = ids .before .before .before .before .before in
     let a = signature .before .before .before .before .before .args in
@@ -24,8 +24,8 @@ returns c t =
     (signature .copy .ensures, refl)
     ▸ (ids .copy2 .ensures, ids .before .before .part-at .ensures ∙ sym (carried-ids s))
     ▸ (version .copy3 .ensures, refl)
-    ▸ (system .put-text .ensures, ap (padded 32) (ap cut (system .before .part-at2 .ensures) ∙ sym (carried-system s)))
-    ▸ (software .put-text2 .ensures, ap (padded 32) (ap cut (software .before .part-at3 .ensures) ∙ sym (carried-software s)))
+    ▸ (system .put-text .ensures, ap (padded 32) (sym (carried-system s)))
+    ▸ (software .put-text2 .ensures, ap (padded 32) (sym (carried-software s)))
     ▸ refl
     )
 
@@ -38,8 +38,6 @@ put-front-spec =
     (λ c κs. tt)
     (λ c κs. tt)
     (λ c. search needs)
-    (λ c κs. tt)
-    (λ c κs. tt)
     (λ c κs. tt)
     (λ c κs. tt)
     (λ c κs. tt)

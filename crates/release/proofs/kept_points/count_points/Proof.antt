@@ -2,7 +2,7 @@
 use mathlib.Core.Path.{sym, ap, _∙_}
 use denote.Ref.{now}
 use lib.ListN.{length}
-use Rattle.tally.proofs.point_runs.RunLaws.{Held, in-run}
+use Rattle.points.proofs.raw.RunLaws.{Held, in-run}
 use Rattle.release.proofs.kept_points.KeptPointLaws.{kept-held, kept-none}
 use Rattle.release.proofs.kept_points.count_points.Statement.{statement}
 use Rattle.release.proofs.kept_points.count_points.Tie as tie

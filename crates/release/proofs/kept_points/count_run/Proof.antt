@@ -5,7 +5,7 @@ use native.Mathlib.Omega.{arith}
 use borrow.Author.Needs.{needs}
 use denote.Ref.{now}
 use lib.ListN.{length, take, drop}
-use Rattle.sheet.specs.Classes.{inTable}
+use Rattle.sheet.specs.Keeping.{inTable}
 use Rattle.release.proofs.kept_points.LoopLaws.{Counted, lent-record, ends, count-begun, count-next, count-ended}
 use Rattle.release.proofs.kept_points.count_run.Statement.{statement}
 use Rattle.release.proofs.kept_points.count_run.Tie as tie
@@ -39,7 +39,7 @@ add-n : tie.Need-add-n Inv-loop μ-loop
 add-n c =
     let turn = c .before .before .before in
     let l = turn .before .loop in
-    omega (arith, l .inv .few, c .step .ensures .1, turn .loop-test .taken)
+    omega (arith, l .inv .few, c .advance .ensures .1, turn .loop-test .taken)
 
 sub-left : tie.Need-sub-left Inv-loop μ-loop
 sub-left c = omega arith
@@ -55,7 +55,7 @@ loop-again c =
     let keep = inTable (now (a .table)) (a .format) in
     let lent = take (l .at + a .record-length - l .at) (drop (l .at) (now (a .run))) in
     let kept : c .before .in-table .result ≡ keep lent = c .before .in-table .ensures in
-    rw (c .step .ensures .0)
+    rw (c .advance .ensures .0)
     (count-next keep (a .record-length) (a .count) (now (a .run)) (l .left) (l .at) (l .n) (turn .loop-test .taken) (l .inv) _
     (kept ∙ ap keep (lent-record (l .at) (a .record-length) (now (a .run)))))
 

@@ -1,4 +1,5 @@
--- `vlrs::copy_records` meets its contract. The loop's invariant: what the records still to walk make of the output is what all make of it.
+-- `vlrs::copy_records` meets its contract. The loop's invariant: what the records still to walk make of the output is
+-- what all make of it.
 -- Assumes nothing.
 use mathlib.Core.Path.{sym, ap, _∙_}
 use mathlib.Core.Logic.{⊎-elim}

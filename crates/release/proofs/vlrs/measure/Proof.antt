@@ -1,4 +1,5 @@
--- `vlrs::measure` meets its contract. The loop's invariant: the records still to walk make up what is missing of the sums.
+-- `vlrs::measure` meets its contract. The loop's invariant: the records still to walk make up what is missing of the
+-- sums.
 -- Assumes nothing.
 use mathlib.Core.Path.{sym, ap, _∙_}
 use mathlib.Core.Logic.{⊎-elim}

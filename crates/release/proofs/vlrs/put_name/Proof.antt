@@ -3,7 +3,6 @@ use mathlib.Core.Path.{_≡_, sym, ap, _∙_}
 use native.Mathlib.Omega.{arith}
 use denote.Ref.{now}
 use Rattle.fields.specs.Bytes.{AllBytes, bytesOf}
-use Rattle.fields.specs.Text.{cut, padded}
 use Rattle.lasfile.specs.Records.{Record, recordOf}
 use Rattle.lasfile.proofs.vlr.FieldLaws.{user-of, id-of}
 use Rattle.release.proofs.vlrs.RecordPartLaws.{sound, name-stored}
@@ -13,15 +12,14 @@ use Rattle.release.proofs.vlrs.put_name.Tie as tie
 
 returns : tie.Need-returns
 returns c =
-    let a = c .before .before .before .before .before .before .before .before .before .before .before .before .before .before .before .before .args in
+    let a = c .before .before .before .before .before .before .before .before .before .before .before .before .before .before .before .args in
     let v = now (a .vlr) in
-    let bytes : AllBytes v = λ i. omega (arith, c .before .before .before .before .before .before .before .before .before .before .before .before .before .before .before .shared-slice-known .given i) in
+    let bytes : AllBytes v = λ i. omega (arith, c .before .before .before .before .before .before .before .before .before .before .before .before .before .before .shared-slice-known .given i) in
     let r : Record = recordOf 2 v in
-    let user : padded 16 (cut (now (c .before .before .before .before .before .before .before .before .part-at .result))) ≡ padded 16 (r .user) = ap (padded 16) (ap cut (c .before .before .before .before .before .before .before .before .part-at .ensures) ∙ sym (user-of 2 v)) in
     let id : bytesOf 2 (c .before .before .before .number-at .result) ≡ bytesOf 2 (r .id) = ap (bytesOf 2) (c .before .before .before .number-at .ensures .0 ∙ sym (id-of 2 v)) in
     c .before .before .put-number .ensures
-    ∙ rw (c .before .before .before .before .before .before .before .put-text .ensures, c .before .before .before .before .before .before .before .before .before .before .before .before .zero .ensures, user, id) (name-stored (now (a .out)) r (sound v bytes))
+    ∙ rw (c .before .before .before .before .before .before .before .put-text .ensures, c .before .before .before .before .before .before .before .before .before .before .before .zero .ensures, ← user-of 2 v, id) (name-stored (now (a .out)) r (sound v bytes))
 
 pub put-name-spec : {M : Type 1} → statement M
 put-name-spec =
-    tie.close (tie.spec (λ c κs. tt) (λ c κs. tt) (λ c κs. tt) (λ c κs. tt) (λ c κs. tt) (λ c. search needs) returns)
+    tie.close (tie.spec (λ c κs. tt) (λ c κs. tt) (λ c κs. tt) (λ c κs. tt) (λ c. search needs) returns)

@@ -5,7 +5,7 @@ use denote.Ref.{now}
 use lib.Seq.{sets}
 use Rattle.fields.specs.Bytes.{Bytes, AllBytes}
 use Rattle.lasfile.specs.Records.{Record, recordOf}
-use Rattle.release.specs.RecordParts.{contentBytes}
+use Rattle.release.specs.KeptRecords.{contentBytes}
 use Rattle.release.proofs.vlrs.RecordPartLaws.{sound, record-stored}
 use borrow.Author.Needs.{needs}
 use Rattle.release.proofs.vlrs.put_record.Statement.{statement}

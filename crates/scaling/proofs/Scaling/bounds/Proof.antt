@@ -2,27 +2,28 @@
 use mathlib.Core.Path.{refl}
 use mir.Syntax.{w32}
 use mir.ValLaws.{toZ-ofZ}
-use Rattle.scaling.specs.Scaling.{boundsOf}
+use Rattle.scaling.specs.Coordinate.{coordinateBits}
+use Rattle.scaling.specs.Scaling.{coordinatesOf, boundsOf}
 use Rattle.scaling.proofs.Scaling.bounds.Statement.{statement}
 use Rattle.scaling.proofs.Scaling.bounds.Tie as tie
 
 returns : tie.Need-returns
-unfolding boundsOf
+unfolding boundsOf coordinatesOf coordinateBits
 returns c =
-    let b5 = c .before .before in
-    let b4 = b5 .before .before in
-    let b3 = b4 .before .before in
-    let b2 = b3 .before .before in
-    let b1 = b2 .before .before in
-    let a = b1 .before .before .args in
-    let g = c .before .struct-told6 .given in
+    let b1 = c .before .before .before .before .before in
+    let min = b1 .before in
+    let max = min .before .before .before .before in
+    let g = max .before .struct-told3 .given in
+    let a = max .before .before .before .before .args in
     simp (
-      b1 .bound .ensures,
-      b2 .bound2 .ensures,
-      b3 .bound3 .ensures,
-      b4 .bound4 .ensures,
-      b5 .bound5 .ensures,
-      c .bound6 .ensures,
+      b1 .bits-of .ensures,
+      c .before .before .before .before .bits-of2 .ensures,
+      c .before .before .before .bits-of3 .ensures,
+      c .before .before .bits-of4 .ensures,
+      c .before .bits-of5 .ensures,
+      c .bits-of6 .ensures,
+      max .coordinates .ensures,
+      min .coordinates2 .ensures,
       toZ-ofZ w32 (a .e .«max_x») (record { sfits = g .0 .1 }),
       toZ-ofZ w32 (a .e .«min_x») (record { sfits = g .1 .0 .1 }),
       toZ-ofZ w32 (a .e .«max_y») (record { sfits = g .1 .1 .0 .1 }),
@@ -36,6 +37,8 @@ pub bounds-spec : {M : Type 1} → statement M
 bounds-spec =
     tie.close
     (tie.spec
+    (λ c κs. tt)
+    (λ c κs. tt)
     (λ c κs. tt)
     (λ c κs. tt)
     (λ c κs. tt)

@@ -1,7 +1,7 @@
 -- `answers::answer` meets its contract. Assumes nothing.
 use mathlib.Core.Path.{refl}
 use borrow.Author.Needs.{needs}
-use Rattle.sheet.specs.KeptAnswers.{keptUnder}
+use Rattle.sheet.specs.Keeping.{keptUnder}
 use Rattle.sheet.proofs.answers.answer.Statement.{statement}
 use Rattle.sheet.proofs.answers.answer.Tie as tie
 

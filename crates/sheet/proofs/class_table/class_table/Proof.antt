@@ -1,4 +1,5 @@
--- `class_table::class_table` meets its contract. The loop's invariant: each entry so far is what the sheet says. Assumes nothing.
+-- `class_table::class_table` meets its contract. The loop's invariant: each entry so far is what the sheet says.
+-- Assumes nothing.
 use mathlib.Core.Path.{_≡_, refl, _∙_}
 use mathlib.Core.Bool.{false}
 use Prim.Native.Nat.{ℕ, _-_, _≤_, _<_}

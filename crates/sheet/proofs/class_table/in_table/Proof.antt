@@ -4,7 +4,7 @@ use Prim.Native.Nat.{ℕ}
 use mathlib.Core.Bool.{false}
 use denote.Ref.{now}
 use lib.ListN.{getD}
-use Rattle.sheet.specs.Classes.{inTable}
+use Rattle.sheet.specs.Keeping.{inTable}
 use borrow.Author.Needs.{needs}
 use Rattle.sheet.proofs.class_table.in_table.Statement.{statement}
 use Rattle.sheet.proofs.class_table.in_table.Tie as tie

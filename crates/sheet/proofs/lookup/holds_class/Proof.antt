@@ -1,7 +1,6 @@
 -- `lookup::holds_class` meets its contract. Assumes nothing.
 use mathlib.Core.Path.{refl}
-use Rattle.sheet.specs.Keeping.{keepsClass}
-use Rattle.sheet.specs.Search.{lineKeeps}
+use Rattle.sheet.specs.Keeping.{keepsClass, lineKeeps}
 use Rattle.sheet.proofs.lookup.holds_class.Statement.{statement}
 use Rattle.sheet.proofs.lookup.holds_class.Tie as tie
 

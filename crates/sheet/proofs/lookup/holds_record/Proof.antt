@@ -1,6 +1,5 @@
 -- `lookup::holds_record` meets its contract. Assumes nothing.
-use Rattle.sheet.specs.Keeping.{keepsRecord}
-use Rattle.sheet.specs.Search.{lineKeeps}
+use Rattle.sheet.specs.Keeping.{keepsRecord, lineKeeps}
 use Rattle.sheet.proofs.lookup.holds_record.Statement.{statement}
 use Rattle.sheet.proofs.lookup.holds_record.Tie as tie
 

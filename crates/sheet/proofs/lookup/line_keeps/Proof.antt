@@ -1,7 +1,7 @@
 -- `lookup::line_keeps` meets its contract. Assumes nothing.
 use mathlib.Core.Path.{_∙_}
 use borrow.Author.Needs.{needs}
-use Rattle.sheet.specs.Search.{lineKeeps}
+use Rattle.sheet.specs.Keeping.{lineKeeps}
 use Rattle.sheet.proofs.lookup.line_keeps.Statement.{statement}
 use Rattle.sheet.proofs.lookup.line_keeps.Tie as tie
 

@@ -1,4 +1,5 @@
--- `lookup::some_line_keeps` meets its contract. The loop's invariant: whether some line of the sheet passes is whether one of the rest does, where `left` more may begin.
+-- `lookup::some_line_keeps` meets its contract. The loop's invariant: whether some line of the sheet passes is whether
+-- one of the rest does, where `left` more may begin.
 -- Assumes nothing.
 use mathlib.Core.Path.{_≡_, sym, ap, _∙_}
 use native.Mathlib.Omega.{arith}
@@ -6,7 +7,7 @@ use Rattle.fields.specs.Lists.{some}
 use Rattle.fields.specs.Text.{cut}
 use Rattle.sheet.specs.Sheet.{lines, linesFrom}
 use Rattle.sheet.proofs.LineLaws.{lines-from}
-use Rattle.sheet.specs.Search.{lineKeeps}
+use Rattle.sheet.specs.Keeping.{lineKeeps}
 use Rattle.sheet.proofs.lookup.SearchLaws.{some-here, some-next, some-full, some-end}
 use Rattle.sheet.proofs.lookup.some_line_keeps.Statement.{statement}
 use Rattle.sheet.proofs.lookup.some_line_keeps.Tie as tie

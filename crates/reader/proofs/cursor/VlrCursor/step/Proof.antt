@@ -10,9 +10,9 @@ use lib.Dec.{T, ltb, leb}
 use lib.ListN.{drop}
 use Rattle.fields.specs.Bytes.{Bytes}
 use Rattle.fields.specs.declared.Verdict.the-variants.{Passes}
-use Rattle.lasfile.specs.Records.{walkEnd, sizeOf}
+use Rattle.lasfile.specs.Records.{sizeOf}
 use Rattle.lasfile.proofs.vlr.FieldLaws.{size-of}
-use Rattle.lasfile.proofs.vlr.RecordLaws.{walkEnd-one, front-in-size}
+use Rattle.lasfile.proofs.vlr.RecordLaws.{front-in-size}
 use Rattle.lasfile.specs.HeaderFields.{pointOffset, recordCount}
 use Rattle.lasfile.specs.FileChecks.{fileVerdict}
 use Rattle.reader.specs.Steps.{recordPlaces, nextCursor}
@@ -28,13 +28,13 @@ use Rattle.reader.proofs.cursor.VlrCursor.step.Tie as tie
 passed : (c : tie.After-enum-told) → fileVerdict (now (c .before .before .before .before .args .file)) ≡ Passes
 passed c = sym (c .before .before .check-file .ensures) ∙ c .enum-told .given .1
 
--- what walking one record says
-ends : (c : tie.After-records-fit) → c .records-fit .result
-    ≡ leb (c .before .before .before .before .before .before .before .before .before .before .args .self .position + sizeOf 2 (drop (c .before .before .before .before .before .before .before .before .before .before .args .self .position) (now (c .before .before .before .before .before .before .before .before .before .before .args .file)))) (pointOffset (now (c .before .before .before .before .before .before .before .before .before .before .args .file)))
-ends c = c .records-fit .ensures ∙ rw (walkEnd-one 2 _ _, c .before .point-offset .ensures .0)
+-- what is asked of the record at the position
+ends : (c : tie.After-fits-in) → let a = c .before .before .before .before .before .before .before .before .before .before .before .args in
+    c .fits-in .result ≡ leb (a .self .position + sizeOf 2 (drop (a .self .position) (now (a .file)))) (pointOffset (now (a .file)))
+ends c = c .fits-in .ensures ∙ rw (c .before .size-at .ensures .0, c .before .before .point-offset .ensures .0)
 
-ends-by : (c : tie.Else3)
-    → c .before .before .before .before .before .before .before .before .before .before .before .args .self .position + sizeOf 2 (drop (c .before .before .before .before .before .before .before .before .before .before .before .args .self .position) (now (c .before .before .before .before .before .before .before .before .before .before .before .args .file))) ≤ pointOffset (now (c .before .before .before .before .before .before .before .before .before .before .before .args .file))
+ends-by : (c : tie.Else3) → let a = c .before .before .before .before .before .before .before .before .before .before .before .before .args in
+    a .self .position + sizeOf 2 (drop (a .self .position) (now (a .file))) ≤ pointOffset (now (a .file))
 ends-by c = leb-true _ _ (sym (ends (c .before)) ∙ not-false _ (c .if3 .left))
 
 -- the place after a record, by its payload
@@ -63,26 +63,26 @@ returns-3 : tie.Need-returns-3
 returns-3 c = sym (refused-18 _ _ _ (passed (c .before .before .before .before)) (inr (inl (omega arith))))
 
 returns-4 : tie.Need-returns-4
-returns-4 c = sym (refused-18 _ _ _ (passed (c .before .before .before .before .before .before .before)) (inr (inr (leb-false _ _ (sym (ends (c .before)) ∙ not-true _ (c .if3 .taken))))))
+returns-4 c = sym (refused-18 _ _ _ (passed (c .before .before .before .before .before .before .before .before)) (inr (inr (leb-false _ _ (sym (ends (c .before)) ∙ not-true _ (c .if3 .taken))))))
 
 places-at-requires : tie.Need-places-at-requires
 places-at-requires c κs =
-    let a = c .before .before .before .before .before .before .before .before .before .before .before .args in
-    omega (arith, ends-by c, front-in-size 2 (drop (a .self .position) (now (a .file))), c .before .before .point-offset .ensures)
+    let a = c .before .before .before .before .before .before .before .before .before .before .before .before .args in
+    omega (arith, ends-by c, front-in-size 2 (drop (a .self .position) (now (a .file))), c .before .before .before .point-offset .ensures)
 
 add-next : tie.Need-add-next
 unfolding recordPlaces
 add-next c =
-    let a = c .before .before .before .before .before .before .before .before .before .before .before .before .before .args in
+    let a = c .before .before .before .before .before .before .before .before .before .before .before .before .before .before .args in
     rw (c .before .places-at .ensures)
-    (omega (arith, size-of 2 (drop (a .self .position) (now (a .file))), ends-by (c .before .before), c .before .before .before .before .point-offset .ensures))
+    (omega (arith, size-of 2 (drop (a .self .position) (now (a .file))), ends-by (c .before .before), c .before .before .before .before .before .point-offset .ensures))
 
 returns-5 : tie.Need-returns-5
 returns-5 c =
-    let a = c .before .before .before .before .before .before .before .before .before .before .before .before .before .args in
+    let a = c .before .before .before .before .before .before .before .before .before .before .before .before .before .before .args in
     let places = c .before .places-at .ensures in
     let next = next-place (now (a .file)) (a .self .position) _ places in
-    let answer = answered (now (a .file)) (a .self .index) (a .self .position) (passed (c .before .before .before .before .before .before .before .before .before)) (index-below (now (a .file)) (a .self .index) (omega arith), (omega arith, ends-by (c .before .before))) in
+    let answer = answered (now (a .file)) (a .self .index) (a .self .position) (passed (c .before .before .before .before .before .before .before .before .before .before)) (index-below (now (a .file)) (a .self .index) (omega arith), (omega arith, ends-by (c .before .before))) in
     found _ (a .self .index) _ _ _ places next ∙ sym answer
 
 pub step-spec : {M : Type 1} → statement M
@@ -97,6 +97,7 @@ step-spec =
     returns-2
     (λ c κs. tt)
     returns-3
+    (λ c κs. tt)
     (λ c κs. tt)
     (λ c κs. tt)
     returns-4

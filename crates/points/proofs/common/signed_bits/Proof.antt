@@ -1,0 +1,20 @@
+-- `common::signed_bits` meets its contract: the sum with 2 ^ 32 is not negative and has the same low 32 bits. Assumes
+-- nothing.
+use Rattle.points.proofs.common.BitsLaws.{cast-fits, sum-fits, back-fits, low-bits}
+use Rattle.points.proofs.common.signed_bits.Statement.{statement}
+use Rattle.points.proofs.common.signed_bits.Tie as tie
+
+cast-result : tie.Need-cast-result
+cast-result c = cast-fits (c .args .z) (c .fits .z)
+
+add-result : tie.Need-add-result
+add-result c = sum-fits (c .args .z) (c .fits .z)
+
+cast-result-2 : tie.Need-cast-result-2
+cast-result-2 c = back-fits (c .args .z) (c .fits .z)
+
+returns : tie.Need-returns
+returns c = low-bits (c .args .z) (c .fits .z)
+
+pub signed-bits-spec : {M : Type 1} → statement M
+signed-bits-spec = tie.close (tie.spec cast-result add-result cast-result-2 returns)

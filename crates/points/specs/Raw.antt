@@ -1,0 +1,50 @@
+-- What is read off the bytes of point records by themselves: the records of a run, and a record's class, return number
+-- and stored coordinates. Requests that move one of these by the format move it here.
+-- Assumes nothing.
+use Prim.Native.Nat.{ℕ, _*_, _/_, _%_, _^_}
+use mathlib.Core.Bool.{Bool, true, false, _&&_}
+use mathlib.Core.List.{List, []}
+use lib.ListN.{length, getD}
+use lib.Dec.{ltb, leb}
+use lib.IntN.{ℤ}
+use mir.Syntax.{w32}
+use mir.Val.{toZ}
+use Rattle.fields.specs.Bytes.{Bytes, part, num, pieces}
+use Rattle.points.specs.declared.raw.Stored.{Stored}
+
+-- n bits of a byte, from bit `low` on
+unfoldable pub bits : ℕ → ℕ → ℕ → ℕ
+bits low n b = b / 2 ^ low % 2 ^ n
+
+-- ---- one record, by its format
+
+-- a point's class is its whole classification byte, in every format
+unfoldable pub classOf : ℕ → Bytes → ℕ
+classOf f p = getD p 15 0
+
+-- a point's return number; all four formats have it in one place
+unfoldable pub returnOf : ℕ → Bytes → ℕ
+returnOf f p = bits 0 3 (getD p 14 0)
+
+-- a point's stored X (axis 0), Y (1) or Z (2), in two's complement; every format begins with them
+unfoldable pub stored : ℕ → Bytes → ℤ
+stored axis p = toZ w32 (num (part (4 * axis) 4 p))
+
+unfoldable pub storedOf : Bytes → Stored
+storedOf p = record { x = stored 0 p; y = stored 1 p; z = stored 2 p }
+
+-- ---- a run of records
+-- A function over a run takes any run, any length and any count, so a run that does not hold its records is one of
+-- none; a release never meets that, since the file checks come first.
+
+-- records are of 20 bytes or more, below 2 ^ 32 in number, and all in `size` bytes
+unfoldable pub inRun : ℕ → ℕ → ℕ → Bool
+inRun count len size = leb 20 len && (ltb count 4294967296 && leb (count * len) size)
+
+unfoldable pub pointsIf : Bool → List Bytes → List Bytes
+pointsIf true ps = ps
+pointsIf false ps = []
+
+-- the first `count` records of a run, `len` bytes each; none where the run does not hold them
+unfoldable pub pointsOf : ℕ → ℕ → Bytes → List Bytes
+pointsOf count len run = pointsIf (inRun count len (length run)) (pieces count len run)

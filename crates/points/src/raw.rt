@@ -1,0 +1,52 @@
+// What is read off the bytes of point records by themselves: whether a run holds its records, and a record's class,
+// return number and stored coordinates. `format` says where a field stands. Bytes past the end count as 0.
+ghost use mathlib.Core.Path.{_≡_};
+ghost use Rattle.points.specs.Raw.{classOf, returnOf, storedOf, inRun};
+use fields::numbers::u8_at;
+use fields::signed;
+
+// The places of the byte with the return number, and of the classification byte.
+const RETURNS: usize = 14;
+
+const CLASSIFICATION: usize = 15;
+
+// The stored X, Y and Z of a point.
+pub struct Stored {
+    pub x: i32,
+    pub y: i32,
+    pub z: i32,
+}
+
+pub fn class_of(format: u8, point: &[u8]) -> u8
+    ensures { λ r. ⌜ r ≡ classOf format (now (point .entry)) ⌝ }
+{
+    u8_at(point, CLASSIFICATION)
+}
+
+pub fn return_of(format: u8, point: &[u8]) -> u8
+    ensures { λ r. ⌜ r ≡ returnOf format (now (point .entry)) ⌝ }
+{
+    u8_at(point, RETURNS) % 8
+}
+
+// The same in every format.
+pub fn stored_of(point: &[u8]) -> Stored
+    ensures { λ r. ⌜ r ≡ storedOf (now (point .entry)) ⌝ }
+{
+    Stored {
+        x: signed::i32_at(point, 0),
+        y: signed::i32_at(point, 4),
+        z: signed::i32_at(point, 8),
+    }
+}
+
+// Whether `count` records of `record_length` bytes lie in `size` bytes. A point record has 20 bytes or more, and there
+// are fewer than 2^32 of them.
+pub fn holds(size: usize, record_length: usize, count: usize) -> bool
+    ensures { λ r. ⌜ r ≡ inRun count «record_length» size ⌝ }
+{
+    if record_length < 20 {
+        return false;
+    }
+    (count < 4294967296) & (count <= size / record_length)
+}
