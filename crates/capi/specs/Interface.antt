@@ -8,7 +8,7 @@ use Rattle.fields.specs.Bytes.{Bytes}
 use Rattle.fields.specs.Checks.{numberOf}
 use Rattle.points.specs.Points.{decoded}
 use Rattle.points.specs.Encoding.{encoded}
-use Rattle.scaling.specs.Coordinate.{coordinateBits}
+use Rattle.scaling.specs.Scaling.{coordinateBits}
 use Rattle.lasfile.specs.FileChecks.{fileVerdict}
 use Rattle.reader.specs.Header.{headerRead}
 use Rattle.reader.specs.Steps.{stepOf}

@@ -53,7 +53,7 @@ fn refused(number: u64, needed: usize) -> las_released
 }
 
 // The numbers of a release.
-pub(crate) fn released_of(answer: publicpart::Answer) -> las_released
+pub(crate) fn released_numbers(answer: publicpart::Answer) -> las_released
     ensures { λ r. ⌜ r ≡ releasedNumbers answer ⌝ }
 {
     match answer {
@@ -64,7 +64,7 @@ pub(crate) fn released_of(answer: publicpart::Answer) -> las_released
 }
 
 // The numbers of what a sheet says of a class or a record.
-pub(crate) fn kept_of(kept: answers::Kept) -> las_kept
+pub(crate) fn kept_numbers(kept: answers::Kept) -> las_kept
     ensures { λ r. ⌜ r ≡ keptNumbers kept ⌝ }
 {
     match kept {

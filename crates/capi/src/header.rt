@@ -91,7 +91,7 @@ fn no_header(number: u64) -> las_header
     }
 }
 
-fn header_numbers(h: header::Header) -> las_header
+fn found_header(h: header::Header) -> las_header
     ensures { λ r. ⌜ r ≡ foundHeader h ⌝ }
 {
     let by_return = by_return_numbers(h.by_return);
@@ -126,11 +126,11 @@ fn header_numbers(h: header::Header) -> las_header
 }
 
 // The numbers of a header.
-pub(crate) fn header_of(answer: header::HeaderRead) -> las_header
+pub(crate) fn header_numbers(answer: header::HeaderRead) -> las_header
     ensures { λ r. ⌜ r ≡ headerNumbers answer ⌝ }
 {
     match answer {
-        header::HeaderRead::Fields(h) => header_numbers(h),
+        header::HeaderRead::Fields(h) => found_header(h),
         header::HeaderRead::Refused(number) => no_header(number),
     }
 }

@@ -7,21 +7,21 @@ pub mod vlr;
 
 ghost use mathlib.Core.Path.{_≡_};
 ghost use Rattle.capi.specs.Interface.{lasLevel, lasCheckFile, lasCheckSheet, lasReadHeader, lasVlrStep, lasPointAt, lasDecode, lasEncode, lasCoordinate, lasClassKept, lasRecordKept, lasGeokeyFind, lasRelease};
-use crate::answers::kept_of;
+use crate::answers::kept_numbers;
 use crate::answers::las_kept;
 use crate::answers::las_released;
 use crate::answers::number_of;
-use crate::answers::released_of;
-use crate::header::header_of;
+use crate::answers::released_numbers;
+use crate::header::header_numbers;
 use crate::header::las_header;
-use crate::point::decoded_of;
+use crate::point::decoded_numbers;
 use crate::point::given_point;
 use crate::point::las_point;
-use crate::point::point_of;
-use crate::vlr::geokey_of;
+use crate::point::point_numbers;
+use crate::vlr::geokey_numbers;
 use crate::vlr::las_geokey;
 use crate::vlr::las_record;
-use crate::vlr::record_of;
+use crate::vlr::record_numbers;
 use geokeys::find;
 use lasfile::check_file;
 use points::decode;
@@ -61,7 +61,7 @@ pub extern "C" fn las_check_sheet(sheet: &[u8]) -> u64
 pub extern "C" fn las_read_header(file: &[u8]) -> las_header
     ensures { λ r. ⌜ r ≡ lasReadHeader (now (file .entry)) ⌝ }
 {
-    header_of(read_header(file))
+    header_numbers(read_header(file))
 }
 
 // One step of the walk: first index 0, at the header size.
@@ -69,21 +69,21 @@ pub extern "C" fn las_read_header(file: &[u8]) -> las_header
 pub extern "C" fn las_vlr_step(file: &[u8], index: usize, position: usize) -> las_record
     ensures { λ r. ⌜ r ≡ lasVlrStep (now (file .entry)) index position ⌝ }
 {
-    record_of(VlrCursor { index, position }.step(file))
+    record_numbers(VlrCursor { index, position }.step(file))
 }
 
 #[no_mangle]
 pub extern "C" fn las_point_at(file: &[u8], index: usize) -> las_point
     ensures { λ r. ⌜ r ≡ lasPointAt (now (file .entry)) index ⌝ }
 {
-    point_of(point_at(file, index))
+    point_numbers(point_at(file, index))
 }
 
 #[no_mangle]
 pub extern "C" fn las_decode(format: u8, record_length: u16, bytes: &[u8]) -> las_point
     ensures { λ r. ⌜ r ≡ lasDecode format «record_length» (now (bytes .entry)) ⌝ }
 {
-    decoded_of(decode(format, record_length, bytes))
+    decoded_numbers(decode(format, record_length, bytes))
 }
 
 // Changes the room only where it answers 0.
@@ -111,7 +111,7 @@ pub extern "C" fn las_coordinate(stored: i32, scale: u64, offset: u64) -> u64
 pub extern "C" fn las_class_kept(sheet: &[u8], class_byte: u8) -> las_kept
     ensures { λ r. ⌜ r ≡ lasClassKept (now (sheet .entry)) «class_byte» ⌝ }
 {
-    kept_of(class_kept(sheet, class_byte))
+    kept_numbers(class_kept(sheet, class_byte))
 }
 
 // The user ID is any number of bytes, cut as any text.
@@ -119,14 +119,14 @@ pub extern "C" fn las_class_kept(sheet: &[u8], class_byte: u8) -> las_kept
 pub extern "C" fn las_record_kept(sheet: &[u8], user: &[u8], record_id: u16) -> las_kept
     ensures { λ r. ⌜ r ≡ lasRecordKept (now (sheet .entry)) (now (user .entry)) «record_id» ⌝ }
 {
-    kept_of(record_kept(sheet, user, record_id))
+    kept_numbers(record_kept(sheet, user, record_id))
 }
 
 #[no_mangle]
 pub extern "C" fn las_geokey_find(file: &[u8], key: u16) -> las_geokey
     ensures { λ r. ⌜ r ≡ lasGeokeyFind (now (file .entry)) key ⌝ }
 {
-    geokey_of(find(file, key))
+    geokey_numbers(find(file, key))
 }
 
 // Changes the output only where it answers 0.
@@ -134,5 +134,5 @@ pub extern "C" fn las_geokey_find(file: &[u8], key: u16) -> las_geokey
 pub extern "C" fn las_release(file: &[u8], sheet: &[u8], out: &mut [u8]) -> las_released
     ensures { λ r. ⌜ (r, now (out .exit)) ≡ lasRelease (now (file .entry)) (now (sheet .entry)) (now (out .entry)) ⌝ }
 {
-    released_of(release(file, sheet, out))
+    released_numbers(release(file, sheet, out))
 }

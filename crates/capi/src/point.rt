@@ -27,7 +27,7 @@ pub struct las_point {
 }
 
 // The numbers of a point and of its record's place.
-fn point_numbers(place: usize, point: points::Point) -> las_point
+fn found_point(place: usize, point: points::Point) -> las_point
     ensures { λ r. ⌜ r ≡ foundPoint place point ⌝ }
 {
     las_point {
@@ -78,21 +78,21 @@ fn no_point(number: u64) -> las_point
 }
 
 // The numbers of one point of a file.
-pub(crate) fn point_of(answer: point::PointAt) -> las_point
+pub(crate) fn point_numbers(answer: point::PointAt) -> las_point
     ensures { λ r. ⌜ r ≡ pointNumbers answer ⌝ }
 {
     match answer {
-        point::PointAt::At(place, point) => point_numbers(place, point),
+        point::PointAt::At(place, point) => found_point(place, point),
         point::PointAt::Refused(number) => no_point(number),
     }
 }
 
 // The numbers of a point that was decoded, which lies at no place.
-pub(crate) fn decoded_of(answer: points::Decoded) -> las_point
+pub(crate) fn decoded_numbers(answer: points::Decoded) -> las_point
     ensures { λ r. ⌜ r ≡ decodedNumbers answer ⌝ }
 {
     match answer {
-        points::Decoded::Fields(point) => point_numbers(0, point),
+        points::Decoded::Fields(point) => found_point(0, point),
         points::Decoded::Refused(number) => no_point(number),
     }
 }

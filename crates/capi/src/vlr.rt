@@ -1,6 +1,8 @@
 // What is found in a file's records, as structs of numbers with C's layout: a step of the walk, and a GeoKey.
 ghost use mathlib.Core.Path.{_≡_};
 ghost use Rattle.capi.specs.RecordAnswers.{foundRecord, noRecord, recordNumbers, geokeyNumbers};
+use geokeys::DOUBLES;
+use geokeys::TEXTS;
 use reader::cursor;
 
 #[repr(C)]
@@ -26,7 +28,7 @@ pub struct las_geokey {
 }
 
 // The numbers of a record, and of the cursor after it.
-fn record_numbers(places: cursor::RecordPlaces, next: cursor::VlrCursor) -> las_record
+fn found_record(places: cursor::RecordPlaces, next: cursor::VlrCursor) -> las_record
     ensures { λ r. ⌜ r ≡ foundRecord places next ⌝ }
 {
     las_record {
@@ -61,11 +63,11 @@ fn no_record(number: u64) -> las_record
 }
 
 // The numbers of one step of the walk.
-pub(crate) fn record_of(step: cursor::Step) -> las_record
+pub(crate) fn record_numbers(step: cursor::Step) -> las_record
     ensures { λ r. ⌜ r ≡ recordNumbers step ⌝ }
 {
     match step {
-        cursor::Step::Record(places, next) => record_numbers(places, next),
+        cursor::Step::Record(places, next) => found_record(places, next),
         cursor::Step::Refused(number) => no_record(number),
     }
 }
@@ -82,13 +84,13 @@ fn geokey(number: u64, location: u64, value: u64, length: u64) -> las_geokey
 }
 
 // The numbers of a lookup.
-pub(crate) fn geokey_of(found: geokeys::GeoKey) -> las_geokey
+pub(crate) fn geokey_numbers(found: geokeys::GeoKey) -> las_geokey
     ensures { λ r. ⌜ r ≡ geokeyNumbers found ⌝ }
 {
     match found {
         geokeys::GeoKey::Value(value) => geokey(0, 0, value, 0),
-        geokeys::GeoKey::Double(bits) => geokey(0, 34736, bits, 0),
-        geokeys::GeoKey::Text(place, length) => geokey(0, 34737, place as u64, length as u64),
+        geokeys::GeoKey::Double(bits) => geokey(0, DOUBLES, bits, 0),
+        geokeys::GeoKey::Text(place, length) => geokey(0, TEXTS, place as u64, length as u64),
         geokeys::GeoKey::Refused(number) => geokey(number, 0, 0, 0),
     }
 }

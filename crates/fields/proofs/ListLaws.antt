@@ -6,7 +6,7 @@ use native.Mathlib.Omega.{arith}
 use mathlib.Core.Bool.{Bool, true, false, _&&_, and-comm}
 use mathlib.Core.List.{List, [], _∷_, _++_}
 use lib.ListN.{length}
-use Rattle.fields.specs.Lists.{All, kept, consIf, total, some}
+use Rattle.fields.specs.Lists.{All, kept, consIf, total, anyOf}
 
 module _ {ℓ} {A : Type ℓ} where
   All-consIf : (P : A → Type 0) (b : Bool) (x : A) (xs : List A) → (b ≡ true → P x) → All P xs → All P (consIf b x xs)
@@ -95,8 +95,8 @@ module _ {ℓ} {A : Type ℓ} where
   kept-comm p q l = kept-both p q l ∙ ap (λ (t : A → Bool). kept t l) (fun-ext (λ x. and-comm (q x) (p x))) ∙ sym (kept-both q p l)
 
   -- the same test, put another way
-  pub some-same : (p q : A → Bool) (l : List A) → All (λ x. p x ≡ q x) l → some p l ≡ some q l
-  unfolding some
+  pub some-same : (p q : A → Bool) (l : List A) → All (λ x. p x ≡ q x) l → anyOf p l ≡ anyOf q l
+  unfolding anyOf
   some-same p q [] h = refl
   some-same p q (x ∷ xs) h = rw (h .0, some-same p q xs (h .1))
 

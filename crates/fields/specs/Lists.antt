@@ -12,15 +12,20 @@ unfoldable pub consIf {ℓ} : {A : Type ℓ} → Bool → A → List A → List 
 consIf true x xs = x ∷ xs
 consIf false x xs = xs
 
+-- a list, or nothing
+unfoldable pub listIf {ℓ} : {A : Type ℓ} → Bool → List A → List A
+listIf true xs = xs
+listIf false xs = []
+
 -- those that pass, in order
 unfoldable pub kept {ℓ} : {A : Type ℓ} → (A → Bool) → List A → List A
 kept p [] = []
 kept p (x ∷ xs) = consIf (p x) x (kept p xs)
 
 -- whether some element passes
-unfoldable pub some {ℓ} : {A : Type ℓ} → (A → Bool) → List A → Bool
-some p [] = false
-some p (x ∷ xs) = p x || some p xs
+unfoldable pub anyOf {ℓ} : {A : Type ℓ} → (A → Bool) → List A → Bool
+anyOf p [] = false
+anyOf p (x ∷ xs) = p x || anyOf p xs
 
 unfoldable pub total {ℓ} : {A : Type ℓ} → (A → ℕ) → List A → ℕ
 total f [] = 0

@@ -5,22 +5,22 @@
 pub const FILE_TOO_SHORT: u64 = 1;
 
 // The signature is not "LASF".
-pub const SIGNATURE: u64 = 2;
+pub const BAD_SIGNATURE: u64 = 2;
 
 // The version is not 1.2.
-pub const VERSION: u64 = 3;
+pub const BAD_VERSION: u64 = 3;
 
 // The header size is below 227 or above the file's length.
-pub const HEADER_SIZE: u64 = 4;
+pub const BAD_HEADER_SIZE: u64 = 4;
 
 // The point format is above 3.
-pub const POINT_FORMAT: u64 = 5;
+pub const BAD_FORMAT: u64 = 5;
 
 // The record length is below the format's size.
-pub const RECORD_LENGTH: u64 = 6;
+pub const BAD_RECORD_LENGTH: u64 = 6;
 
 // The point offset is below the header size or above the file's length.
-pub const POINT_OFFSET: u64 = 7;
+pub const BAD_POINT_OFFSET: u64 = 7;
 
 // A counted record runs past the point offset.
 pub const RECORDS_PAST_OFFSET: u64 = 8;
@@ -29,13 +29,13 @@ pub const RECORDS_PAST_OFFSET: u64 = 8;
 pub const POINTS_PAST_END: u64 = 9;
 
 // A scale or an offset is out of its range.
-pub const SCALING: u64 = 10;
+pub const BAD_SCALING: u64 = 10;
 
 // The index is not below the number of points.
-pub const POINT_INDEX: u64 = 11;
+pub const NO_POINT: u64 = 11;
 
 // Bytes or room, record length and format do not go together.
-pub const POINT_SHAPE: u64 = 12;
+pub const BAD_SHAPE: u64 = 12;
 
 // A field is too large to encode.
 pub const FIELD_TOO_LARGE: u64 = 13;
@@ -44,10 +44,10 @@ pub const FIELD_TOO_LARGE: u64 = 13;
 pub const NO_RECORD: u64 = 18;
 
 // A line does not begin with its mark.
-pub const LINE_MARK: u64 = 20;
+pub const BAD_MARK: u64 = 20;
 
 // A line is of an unknown kind.
-pub const LINE_KIND: u64 = 21;
+pub const BAD_KIND: u64 = 21;
 
 // A line is cut.
 pub const LINE_CUT: u64 = 22;
@@ -65,16 +65,16 @@ pub const OUTPUT_TOO_SHORT: u64 = 30;
 pub const NO_DIRECTORY: u64 = 40;
 
 // The directory is cut or of another version.
-pub const DIRECTORY: u64 = 41;
+pub const BAD_DIRECTORY: u64 = 41;
 
 // The key is not in the directory.
 pub const NO_KEY: u64 = 42;
 
 // The key's location is none that is known.
-pub const LOCATION: u64 = 43;
+pub const BAD_LOCATION: u64 = 43;
 
-// There is not one value.
-pub const VALUE_COUNT: u64 = 44;
+// A number or a double has a count other than 1.
+pub const BAD_COUNT: u64 = 44;
 
 // The parameter record is absent.
 pub const NO_PARAMETERS: u64 = 45;
@@ -86,4 +86,4 @@ pub const VALUE_PAST_END: u64 = 46;
 pub const INPUT_TOO_LONG: u64 = 50;
 
 // A file was not opened, read or written.
-pub const INPUT_FAILED: u64 = 51;
+pub const FILE_FAILED: u64 = 51;

@@ -30,9 +30,18 @@ pub enum GeoKey {
 // two, or 0.
 const DIRECTORY: u64 = 34735;
 
-const DOUBLES: u64 = 34736;
+pub const DOUBLES: u64 = 34736;
 
-const TEXTS: u64 = 34737;
+pub const TEXTS: u64 = 34737;
+
+// The size of a directory's head, and of an entry, and the places of an entry's fields behind its key.
+const ENTRY: usize = 8;
+
+const LOCATION: usize = 2;
+
+const COUNT: usize = 4;
+
+const VALUE_OFFSET: usize = 6;
 
 enum Found {
     At(usize),
@@ -76,17 +85,17 @@ fn payload_at(file: &[u8], at: usize) -> &[u8]
 fn check_directory(directory: &[u8]) -> Verdict
     ensures { λ r. ⌜ r ≡ firstFailing (directoryChecks (now (directory .entry))) ⌝ }
 {
-    if directory.len() < 8 {
-        return Verdict::Fails(refusals::DIRECTORY);
+    if directory.len() < ENTRY {
+        return Verdict::Fails(refusals::BAD_DIRECTORY);
     }
     if !slices::same_bytes(
         slices::part_at(directory, 0, 6),
         b"\x01\x00\x01\x00\x00\x00",
     ) {
-        return Verdict::Fails(refusals::DIRECTORY);
+        return Verdict::Fails(refusals::BAD_DIRECTORY);
     }
     if (directory.len() as u64) < 8 + 8 * number_at(directory, 6, 2) {
-        return Verdict::Fails(refusals::DIRECTORY);
+        return Verdict::Fails(refusals::BAD_DIRECTORY);
     }
     Verdict::Passes
 }
@@ -95,13 +104,13 @@ fn check_directory(directory: &[u8]) -> Verdict
 fn find_entry(directory: &[u8], key: u16) -> Found
     ensures { λ r. ⌜ entryIn (now (directory .entry)) r ≡ entryOf (now (directory .entry)) key ⌝ }
 {
-    let mut at = 8;
+    let mut at = ENTRY;
     let mut left = number_at(directory, 6, 2);
     while 0 < left {
         if number_at(directory, at, 2) == key as u64 {
             return Found::At(at);
         }
-        at += 8;
+        at += ENTRY;
         left -= 1;
     }
     Found::Nothing
@@ -112,9 +121,9 @@ fn in_payload(entry: &[u8], at: usize, parameters: &[u8]) -> GeoKey
     requires { ⌜ at < 2 ^ 32 ⌝ }
     ensures { λ r. ⌜ r ≡ inPayload (now (entry .entry)) at (now (parameters .entry)) ⌝ }
 {
-    let count = number_at(entry, 4, 2) as usize;
-    let offset = number_at(entry, 6, 2) as usize;
-    if number_at(entry, 2, 2) == DOUBLES {
+    let count = number_at(entry, COUNT, 2) as usize;
+    let offset = number_at(entry, VALUE_OFFSET, 2) as usize;
+    if number_at(entry, LOCATION, 2) == DOUBLES {
         if parameters.len() < 8 * offset + 8 {
             return GeoKey::Refused(refusals::VALUE_PAST_END);
         }
@@ -131,16 +140,16 @@ fn from_entry(file: &[u8], entry: &[u8]) -> GeoKey
     requires { ⌜ fileVerdict (now file) ≡ Passes ⌝ }
     ensures { λ r. ⌜ r ≡ fromEntry (now (file .entry)) (some (now (entry .entry))) ⌝ }
 {
-    let location = number_at(entry, 2, 2);
-    let count = number_at(entry, 4, 2);
+    let location = number_at(entry, LOCATION, 2);
+    let count = number_at(entry, COUNT, 2);
     if !((location == 0) | ((location == DOUBLES) | (location == TEXTS))) {
-        return GeoKey::Refused(refusals::LOCATION);
+        return GeoKey::Refused(refusals::BAD_LOCATION);
     }
     if !((location == TEXTS) | (count == 1)) {
-        return GeoKey::Refused(refusals::VALUE_COUNT);
+        return GeoKey::Refused(refusals::BAD_COUNT);
     }
     if location == 0 {
-        return GeoKey::Value(number_at(entry, 6, 2));
+        return GeoKey::Value(number_at(entry, VALUE_OFFSET, 2));
     }
     let found = find_projection(file, location);
     match found {
@@ -150,7 +159,7 @@ fn from_entry(file: &[u8], entry: &[u8]) -> GeoKey
 }
 
 // Numbers 41 to 46, or the value of a key in a directory.
-fn from_directory(file: &[u8], directory: &[u8], key: u16) -> GeoKey
+fn in_directory(file: &[u8], directory: &[u8], key: u16) -> GeoKey
     requires { ⌜ fileVerdict (now file) ≡ Passes ⌝ }
     ensures { λ r. ⌜ r ≡ inDirectory (now (file .entry)) (now (directory .entry)) key ⌝ }
 {
@@ -160,7 +169,7 @@ fn from_directory(file: &[u8], directory: &[u8], key: u16) -> GeoKey
     }
     let found = find_entry(directory, key);
     match found {
-        Found::At(at) => from_entry(file, slices::part_at(directory, at, 8)),
+        Found::At(at) => from_entry(file, slices::part_at(directory, at, ENTRY)),
         Found::Nothing => GeoKey::Refused(refusals::NO_KEY),
     }
 }
@@ -175,7 +184,7 @@ pub fn find(file: &[u8], key: u16) -> GeoKey
     }
     let found = find_projection(file, DIRECTORY);
     match found {
-        Found::At(at) => from_directory(file, payload_at(file, at), key),
+        Found::At(at) => in_directory(file, payload_at(file, at), key),
         Found::Nothing => GeoKey::Refused(refusals::NO_DIRECTORY),
     }
 }

@@ -1,6 +1,5 @@
 // Releases what sheet.bin keeps of in.las to out.las, in the folder where it runs, and prints one line: what was
 // released, or the number of the refusal.
-mod inputs;
 mod output;
 
 ghost use mathlib.Core.Path.{_≡_};
@@ -8,6 +7,7 @@ ghost use lib.ListN.{length};
 use fields::Verdict;
 use fields::refusals;
 use fields::slices;
+use lasfile::inputs;
 use publicpart::Answer;
 
 // Reads until the end of the file or until buf is full, and answers how many bytes it read, or -1 where a read fails. A
@@ -56,7 +56,7 @@ fn run(file: &[u8], sheet: &[u8]) {
             if output::save(slices::part_at(&out, 0, length)) {
                 output::print_released(length as u64, points as u64, records as u64);
             } else {
-                output::print_refused(refusals::INPUT_FAILED);
+                output::print_refused(refusals::FILE_FAILED);
             }
         }
         Answer::Short(_) => output::print_refused(refusals::OUTPUT_TOO_SHORT),

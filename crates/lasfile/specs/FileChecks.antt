@@ -13,7 +13,7 @@ use Rattle.scaling.specs.Scaling.{scalingOf, goodScaling}
 
 -- over a file's length, its header and the place where its records end
 abbrev pub fileChecksOf : ℕ → Bytes → ℕ → List Check
-fileChecksOf n header recordsEnd =
+fileChecksOf n header end =
     (1, n below headerBlock)
     ∷ (2, part 0 4 header differs-from signature)
     ∷ (3, part 24 2 header differs-from version)
@@ -21,7 +21,7 @@ fileChecksOf n header recordsEnd =
     ∷ (5, 3 below format header)
     ∷ (6, recordLength header below formatSize (format header))
     ∷ (7, pointOffset header below headerSize header or n below pointOffset header)
-    ∷ (8, pointOffset header below recordsEnd)
+    ∷ (8, pointOffset header below end)
     ∷ (9, n below pointOffset header + pointCount header * recordLength header)
     ∷ (10, not-so (goodScaling (scalingOf header)))
     ∷ []

@@ -2,3 +2,4 @@ pub mod FileChecks
 pub mod Passed
 pub mod HeaderFields
 pub mod Records
+pub mod Inputs

@@ -74,8 +74,8 @@ recordFields lw r =
 unfoldable pub recordBytes : ℕ → Record → Bytes
 recordBytes lw r = join (recordFields lw r)
 
-unfoldable pub recordLen : ℕ → Record → ℕ
-recordLen lw r = frontSize lw + length (r .payload)
+unfoldable pub writtenLength : ℕ → Record → ℕ
+writtenLength lw r = frontSize lw + length (r .payload)
 
 unfoldable pub recordsBytes : ℕ → List Record → Bytes
 recordsBytes lw rs = join (map (recordBytes lw) rs)

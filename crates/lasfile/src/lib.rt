@@ -1,5 +1,6 @@
 // A LAS file: the places and counts of its header, its variable length records, and the file checks.
 pub mod header;
+pub mod inputs;
 pub mod vlr;
 
 ghost use mathlib.Core.Path.{_≡_};
@@ -21,17 +22,17 @@ fn check_header(file: &[u8]) -> Verdict
         return Verdict::Fails(refusals::FILE_TOO_SHORT);
     }
     if !slices::same_bytes(slices::part_at(file, 0, 4), b"LASF") {
-        return Verdict::Fails(refusals::SIGNATURE);
+        return Verdict::Fails(refusals::BAD_SIGNATURE);
     }
-    if !slices::same_bytes(slices::part_at(file, 24, 2), b"\x01\x02") {
-        return Verdict::Fails(refusals::VERSION);
+    if !slices::same_bytes(slices::part_at(file, header::VERSION, 2), b"\x01\x02") {
+        return Verdict::Fails(refusals::BAD_VERSION);
     }
     let size = header::header_size(file);
     if size < HEADER_BLOCK {
-        return Verdict::Fails(refusals::HEADER_SIZE);
+        return Verdict::Fails(refusals::BAD_HEADER_SIZE);
     }
     if length < size {
-        return Verdict::Fails(refusals::HEADER_SIZE);
+        return Verdict::Fails(refusals::BAD_HEADER_SIZE);
     }
     check_points(file)
 }
@@ -41,20 +42,20 @@ fn check_points(file: &[u8]) -> Verdict
     ensures { λ r. ⌜ r ≡ firstFailing (take 3 (drop 4 (fileChecks (now (file .entry))))) ⌝ }
 {
     let format = header::format(file);
-    if 3 < format {
-        return Verdict::Fails(refusals::POINT_FORMAT);
+    if layouts::HIGHEST < format {
+        return Verdict::Fails(refusals::BAD_FORMAT);
     }
     let layout = layouts::layout_of(format);
     let size = layout.size;
     if header::record_length(file) < size {
-        return Verdict::Fails(refusals::RECORD_LENGTH);
+        return Verdict::Fails(refusals::BAD_RECORD_LENGTH);
     }
     let offset = header::point_offset(file);
     if offset < header::header_size(file) {
-        return Verdict::Fails(refusals::POINT_OFFSET);
+        return Verdict::Fails(refusals::BAD_POINT_OFFSET);
     }
     if file.len() < offset {
-        return Verdict::Fails(refusals::POINT_OFFSET);
+        return Verdict::Fails(refusals::BAD_POINT_OFFSET);
     }
     Verdict::Passes
 }
@@ -75,7 +76,7 @@ fn check_contents(file: &[u8]) -> Verdict
         return Verdict::Fails(refusals::POINTS_PAST_END);
     }
     if !scaling::Scaling::read(file).is_good() {
-        return Verdict::Fails(refusals::SCALING);
+        return Verdict::Fails(refusals::BAD_SCALING);
     }
     Verdict::Passes
 }

@@ -11,10 +11,10 @@ use Rattle.fields.specs.Bytes.{Bytes}
 use Rattle.fields.specs.Checks.{fails, firstFailing}
 use Rattle.fields.proofs.CheckLaws.{gives, goes-on, unclear}
 use Rattle.points.specs.Formats.{formatSize, timePlace, colourPlace}
-use Rattle.points.specs.Raw.{classOf, returnOf}
 use Rattle.points.specs.declared.Point.{Point}
 use Rattle.points.specs.declared.Decoded.the-variants.{Fields, Refused}
-use Rattle.points.specs.Points.{shape, numberAt, decodeChecks, fieldsIf, decoded, pointOf}
+use Rattle.points.specs.Points.{shape, numberIn, decodeChecks, fieldsIf, decoded, pointOf}
+use Rattle.points.specs.Encoding.{blank}
 
 -- ---- the test of the shape, as the code makes it
 
@@ -46,8 +46,8 @@ shaped r false e h = tt
 -- ---- decoding
 
 -- the fields that all formats share, with those that only some have
-pub with-others : (f : ℕ) (p : Bytes) (q : Point) (time red green blue : ℕ) → q ≡ pointOf 0 p
-    → time ≡ numberAt 8 (timePlace f) 0 p → red ≡ numberAt 2 (colourPlace f) 0 p → green ≡ numberAt 2 (colourPlace f) 2 p → blue ≡ numberAt 2 (colourPlace f) 4 p
+pub with-others : (f : ℕ) (p : Bytes) (q : Point) (time red green blue : ℕ) → q ≡ blank 0 (pointOf f p)
+    → time ≡ numberIn 8 (timePlace f) 0 p → red ≡ numberIn 2 (colourPlace f) 0 p → green ≡ numberIn 2 (colourPlace f) 2 p → blue ≡ numberIn 2 (colourPlace f) 4 p
     → _≡_ {A = Point}
     (record {
       x = q .x;
@@ -68,7 +68,7 @@ pub with-others : (f : ℕ) (p : Bytes) (q : Point) (time red green blue : ℕ) 
       blue = blue;
     })
     (pointOf f p)
-unfolding pointOf returnOf classOf
+unfolding pointOf blank
 with-others f p q time red green blue e t r g b = rw (e, t, r, g, b)
 
 pub refused : (f len : ℕ) (p : Bytes) (r : Bool) → r ≡ not (fails (shape f len (length p))) → not r ≡ true → decoded f len p ≡ Refused 12

@@ -1,35 +1,46 @@
--- Laws of single fields: a number at a place, over the place, and the byte at 14.
+-- Laws of single fields: a number at a place, over the place, and a flag as a number.
 -- Assumes nothing.
 use mathlib.Core.Path.{_≡_, refl, sym}
 use Prim.Native.Nat.{ℕ, zero, zero-le, _+_, _-_, _^_, _≤_, _<_}
 use native.Mathlib.Nat.{pow-le-pow-right}
 use native.Mathlib.Omega.{arith}
+use mathlib.Core.Bool.{Bool, true, false}
 use lib.ListN.{length, take, drop, length-drop}
 use lib.Seq.{take-all}
+use mir.Val.{boolByte}
 use Rattle.fields.specs.Bytes.{Bytes, num, part}
 use Rattle.fields.proofs.ByteLaws.{num-past, part-drop}
 use Rattle.points.specs.declared.formats.Place.{Place}
 use Rattle.points.specs.declared.formats.Place.the-variants.{At, Absent}
-use Rattle.points.specs.Points.{numberAt}
+use Rattle.points.specs.Points.{numberIn}
+use Rattle.points.specs.Encoding.{valueIf}
 
 -- r is the number of w bytes at a place
 abbrev pub Number : ℕ → Place → ℕ → Bytes → ℕ → Type 0
-Number w place shift s r = (r ≡ numberAt w place shift s) × (r < 256 ^ w)
+Number w place shift s r = (r ≡ numberIn w place shift s) × (r < 256 ^ w)
 
 none-fits : (w : ℕ) → 0 < 256 ^ w
 none-fits w = omega (arith, pow-le-pow-right {n = 256} (omega arith) (zero-le {n = w}))
 
 pub number-none : (w : ℕ) (place : Place) (shift : ℕ) (s : Bytes) → place ≡ Absent → Number w place shift s 0
-unfolding numberAt
+unfolding numberIn
 number-none w place shift s e = rw e (refl, none-fits w)
 
 pub number-past : (w : ℕ) (place : Place) (shift : ℕ) (s : Bytes) (at : ℕ) → place ≡ At at → length s ≤ at → Number w place shift s 0
-unfolding numberAt
+unfolding numberIn
 number-past w place shift s at e h = rw e (sym (num-past (at + shift) w s (omega arith)), none-fits w)
 
 pub number-there : (w : ℕ) (place : Place) (shift : ℕ) (s : Bytes) (at r : ℕ) → place ≡ At at
     → (r ≡ num (part shift w (take (length s - at) (drop at s)))) × (r < 256 ^ w) → Number w place shift s r
-unfolding numberAt
+unfolding numberIn
 number-there w place shift s at r e h =
     let whole : take (length s - at) (drop at s) ≡ drop at s = take-all (length s - at) (drop at s) (simp length-drop (omega arith)) in
     rw e (rw (whole, part-drop at shift w s) at (h .0), h .1)
+
+pub value-none : (place : Place) (n : ℕ) → place ≡ Absent → 0 ≡ valueIf place n
+unfolding valueIf
+value-none place n e = rw e refl
+
+pub flag-le : (b : Bool) → boolByte b ≤ 1
+flag-le true = omega arith
+flag-le false = omega arith

@@ -1,2 +1,2 @@
-mod FieldLaws
+pub mod FieldLaws
 pub mod AnswerLaws

@@ -1,11 +1,11 @@
 -- The bytes of a point's fields, and what encoding gives.
 -- Assumes nothing.
-use Prim.Native.Nat.{ℕ, _^_, _<_}
+use Prim.Native.Nat.{ℕ, _^_, _<_, _+_, _*_}
 use mathlib.Core.List.{List, [], _∷_, _++_}
 use lib.ListN.{length}
 use lib.Seq.{sets}
 use mir.Syntax.{w8, w32}
-use mir.Val.{SFits}
+use mir.Val.{SFits, ofZ, boolByte}
 use Rattle.fields.specs.Bytes.{Bytes, bytesOf, join}
 use Rattle.fields.specs.Checks.{Test, Check, _below_, _or_, firstFailing}
 use Rattle.fields.specs.declared.Verdict.{Verdict}
@@ -15,7 +15,24 @@ use Rattle.points.specs.declared.formats.Place.the-variants.{At, Absent}
 use Rattle.points.specs.Formats.{timePlace, colourPlace}
 use Rattle.points.specs.declared.Point.{Point}
 use Rattle.points.specs.Points.{shape}
-use Rattle.points.specs.Shared.{sharedFields}
+
+-- the byte at 14, of its four parts
+unfoldable pub flagByte : Point → ℕ
+flagByte q = q .«return_number» + 8 * q .returns + 64 * boolByte (q .«scan_direction») + 128 * boolByte (q .edge)
+
+-- the first 20 bytes
+unfoldable pub sharedFields : Point → List Bytes
+sharedFields q =
+    bytesOf 4 (ofZ w32 (q .x))
+    ∷ bytesOf 4 (ofZ w32 (q .y))
+    ∷ bytesOf 4 (ofZ w32 (q .z))
+    ∷ bytesOf 2 (q .intensity)
+    ∷ bytesOf 1 (flagByte q)
+    ∷ bytesOf 1 (q .«class_byte»)
+    ∷ bytesOf 1 (ofZ w8 (q .«scan_angle»))
+    ∷ bytesOf 1 (q .«user_data»)
+    ∷ bytesOf 2 (q .«source_id»)
+    ∷ []
 
 -- fields that a format has, or none of them
 unfoldable pub ifPlaced : Place → List Bytes → List Bytes

@@ -1,7 +1,6 @@
 -- Point records: the fields of a record's bytes.
 -- Assumes nothing.
 use Prim.Native.Nat.{ℕ, _+_}
-use mathlib.Core.Bool.{Bool, true, false}
 use mathlib.Core.List.{List, [], _∷_}
 use lib.ListN.{length, getD}
 use lib.Dec.{eqb}
@@ -21,15 +20,10 @@ use Rattle.points.specs.declared.Decoded.the-variants.{Fields, Refused}
 
 -- ---- fields out of bytes
 
--- a flag as a number
-unfoldable pub bit : Bool → ℕ
-bit false = 0
-bit true = 1
-
 -- the number of `width` bytes, `shift` bytes behind a place; 0 where the format lacks the field
-unfoldable pub numberAt : ℕ → Place → ℕ → Bytes → ℕ
-numberAt width Absent shift p = 0
-numberAt width (At at) shift p = num (part (at + shift) width p)
+unfoldable pub numberIn : ℕ → Place → ℕ → Bytes → ℕ
+numberIn width Absent shift p = 0
+numberIn width (At at) shift p = num (part (at + shift) width p)
 
 -- the fields of a record p of format f
 unfoldable pub pointOf : ℕ → Bytes → Point
@@ -47,10 +41,10 @@ pointOf f p =
       «scan_angle» = toZ w8 (getD p 16 0);
       «user_data» = getD p 17 0;
       «source_id» = num (part 18 2 p);
-      «gps_time» = numberAt 8 (timePlace f) 0 p;
-      red = numberAt 2 (colourPlace f) 0 p;
-      green = numberAt 2 (colourPlace f) 2 p;
-      blue = numberAt 2 (colourPlace f) 4 p;
+      «gps_time» = numberIn 8 (timePlace f) 0 p;
+      red = numberIn 2 (colourPlace f) 0 p;
+      green = numberIn 2 (colourPlace f) 2 p;
+      blue = numberIn 2 (colourPlace f) 4 p;
     }
 
 -- what 12 is given for: the n bytes differ from the record length, that length is below the format's size, or the

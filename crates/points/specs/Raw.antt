@@ -2,13 +2,14 @@
 -- and stored coordinates. Requests that move one of these by the format move it here.
 -- Assumes nothing.
 use Prim.Native.Nat.{ℕ, _*_, _/_, _%_, _^_}
-use mathlib.Core.Bool.{Bool, true, false, _&&_}
-use mathlib.Core.List.{List, []}
+use mathlib.Core.Bool.{Bool, _&&_}
+use mathlib.Core.List.{List}
 use lib.ListN.{length, getD}
 use lib.Dec.{ltb, leb}
 use lib.IntN.{ℤ}
 use mir.Syntax.{w32}
 use mir.Val.{toZ}
+use Rattle.fields.specs.Lists.{listIf}
 use Rattle.fields.specs.Bytes.{Bytes, part, num, pieces}
 use Rattle.points.specs.declared.raw.Stored.{Stored}
 
@@ -41,10 +42,6 @@ storedOf p = record { x = stored 0 p; y = stored 1 p; z = stored 2 p }
 unfoldable pub inRun : ℕ → ℕ → ℕ → Bool
 inRun count len size = leb 20 len && (ltb count 4294967296 && leb (count * len) size)
 
-unfoldable pub pointsIf : Bool → List Bytes → List Bytes
-pointsIf true ps = ps
-pointsIf false ps = []
-
 -- the first `count` records of a run, `len` bytes each; none where the run does not hold them
 unfoldable pub pointsOf : ℕ → ℕ → Bytes → List Bytes
-pointsOf count len run = pointsIf (inRun count len (length run)) (pieces count len run)
+pointsOf count len run = listIf (inRun count len (length run)) (pieces count len run)

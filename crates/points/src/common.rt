@@ -4,8 +4,10 @@ ghost use lib.Seq.{sets};
 ghost use mir.Syntax.{w32};
 ghost use mir.Val.{ofZ};
 ghost use Rattle.fields.specs.Bytes.{join};
-ghost use Rattle.points.specs.Shared.{flagByte, sharedFields};
+ghost use Rattle.points.specs.Encoding.{flagByte, sharedFields};
 use crate::Point;
+use crate::raw::CLASSIFICATION;
+use crate::raw::RETURNS;
 
 // The 32 bits of a number in two's complement.
 fn signed_bits(z: i32) -> u64
@@ -33,8 +35,8 @@ pub(crate) fn put_shared(room: &mut [u8], point: Point)
     fields::numbers::put_number(room, 4, 4, signed_bits(point.y));
     fields::numbers::put_number(room, 8, 4, signed_bits(point.z));
     fields::numbers::put_number(room, 12, 2, point.intensity as u64);
-    fields::numbers::put_number(room, 14, 1, flag_byte(point));
-    fields::numbers::put_number(room, 15, 1, point.class_byte as u64);
+    fields::numbers::put_number(room, RETURNS, 1, flag_byte(point));
+    fields::numbers::put_number(room, CLASSIFICATION, 1, point.class_byte as u64);
     fields::numbers::put_number(room, 16, 1, angle);
     fields::numbers::put_number(room, 17, 1, point.user_data as u64);
     fields::numbers::put_number(room, 18, 2, point.source_id as u64);

@@ -49,7 +49,7 @@ pub fn encode(format: u8, record_length: u16, point: Point, room: &mut [u8]) -> 
     ensures { λ r. ⌜ (r, now (room .exit)) ≡ encoded format «record_length» point (now (room .entry)) ⌝ }
 {
     if !crate::has_shape(format, record_length, room.len()) {
-        return Verdict::Fails(refusals::POINT_SHAPE);
+        return Verdict::Fails(refusals::BAD_SHAPE);
     }
     if is_large(point) {
         return Verdict::Fails(refusals::FIELD_TOO_LARGE);

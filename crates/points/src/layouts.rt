@@ -14,7 +14,10 @@ pub struct Layout {
     pub colour: Place,
 }
 
-// The layout of a format by its number; size 0 and no places above 3.
+// The highest number of a format.
+pub const HIGHEST: u8 = 3;
+
+// The layout of a format by its number; size 0 and no places above the highest.
 pub fn layout_of(format: u8) -> Layout
     ensures { λ r. ⌜ r ≡ layoutOf format ⌝ }
 {

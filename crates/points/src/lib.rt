@@ -10,7 +10,8 @@ ghost use Prim.Native.Nat.{_<_, _^_, min};
 ghost use mathlib.Core.Bool.{not};
 ghost use Rattle.fields.specs.Bytes.{num, part};
 ghost use Rattle.fields.specs.Checks.{fails};
-ghost use Rattle.points.specs.Points.{numberAt, shape, pointOf, decoded};
+ghost use Rattle.points.specs.Points.{numberIn, shape, pointOf, decoded};
+ghost use Rattle.points.specs.Encoding.{blank};
 use crate::formats::Place;
 use fields::refusals;
 use fields::signed;
@@ -49,7 +50,7 @@ fn u16_at(s: &[u8], at: usize) -> u16
 
 // The number of `width` bytes, `shift` bytes behind a place; 0 where the format lacks the field.
 fn number_in(s: &[u8], place: Place, shift: usize, width: usize) -> u64
-    ensures { λ r. ⌜ (r ≡ numberAt (min width 8) place shift (now (s .entry))) × (r < 256 ^ min width 8) ⌝ }
+    ensures { λ r. ⌜ (r ≡ numberIn (min width 8) place shift (now (s .entry))) × (r < 256 ^ min width 8) ⌝ }
 {
     match place {
         Place::Absent => 0,
@@ -64,27 +65,27 @@ fn number_in(s: &[u8], place: Place, shift: usize, width: usize) -> u64
 }
 
 fn u16_in(s: &[u8], place: Place, shift: usize) -> u16
-    ensures { λ r. ⌜ r ≡ numberAt 2 place shift (now (s .entry)) ⌝ }
+    ensures { λ r. ⌜ r ≡ numberIn 2 place shift (now (s .entry)) ⌝ }
 {
     number_in(s, place, shift, 2) as u16
 }
 
-// The fields that all formats share; the others are 0, as in format 0.
-fn shared_of(s: &[u8]) -> Point
-    ensures { λ r. ⌜ r ≡ pointOf 0 (now (s .entry)) ⌝ }
+// The fields of a record that all formats share; the others, which format 0 lacks, are 0.
+fn shared_of(format: u8, s: &[u8]) -> Point
+    ensures { λ r. ⌜ r ≡ blank 0 (pointOf format (now (s .entry))) ⌝ }
 {
     let stored = raw::stored_of(s);
-    let flags = fields::numbers::u8_at(s, 14);
+    let flags = fields::numbers::u8_at(s, raw::RETURNS);
     Point {
         x: stored.x,
         y: stored.y,
         z: stored.z,
         intensity: u16_at(s, 12),
-        return_number: raw::return_of(0, s),
+        return_number: raw::return_of(format, s),
         returns: flags / 8 % 8,
         scan_direction: flags / 64 % 2 == 1,
         edge: flags / 128 % 2 == 1,
-        class_byte: raw::class_of(0, s),
+        class_byte: raw::class_of(format, s),
         scan_angle: signed::i8_at(s, 16),
         user_data: fields::numbers::u8_at(s, 17),
         source_id: u16_at(s, 18),
@@ -102,7 +103,7 @@ pub(crate) fn has_shape(format: u8, record_length: u16, n: usize) -> bool
     let layout = layouts::layout_of(format);
     let size = layout.size;
     let len = record_length as usize;
-    (n == len) & (size <= len) & (format <= 3)
+    (n == len) & (size <= len) & (format <= layouts::HIGHEST)
 }
 
 // The fields of a point record.
@@ -110,12 +111,12 @@ pub fn decode(format: u8, record_length: u16, bytes: &[u8]) -> Decoded
     ensures { λ r. ⌜ r ≡ decoded format «record_length» (now (bytes .entry)) ⌝ }
 {
     if !has_shape(format, record_length, bytes.len()) {
-        return Decoded::Refused(refusals::POINT_SHAPE);
+        return Decoded::Refused(refusals::BAD_SHAPE);
     }
     let layout = layouts::layout_of(format);
     let time = layout.time;
     let colour = layout.colour;
-    let mut point = shared_of(bytes);
+    let mut point = shared_of(format, bytes);
     point.gps_time = number_in(bytes, time, 0, 8);
     point.red = u16_in(bytes, colour, 0);
     point.green = u16_in(bytes, colour, 2);

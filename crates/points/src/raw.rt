@@ -1,14 +1,20 @@
 // What is read off the bytes of point records by themselves: whether a run holds its records, and a record's class,
-// return number and stored coordinates. `format` says where a field stands. Bytes past the end count as 0.
+// return number and stored coordinates. Formats 0 to 3 have each field in one place, so that `format` is not
+// looked at yet. Bytes past the end count as 0.
 ghost use mathlib.Core.Path.{_≡_};
 ghost use Rattle.points.specs.Raw.{classOf, returnOf, storedOf, inRun};
 use fields::numbers::u8_at;
 use fields::signed;
 
 // The places of the byte with the return number, and of the classification byte.
-const RETURNS: usize = 14;
+pub(crate) const RETURNS: usize = 14;
 
-const CLASSIFICATION: usize = 15;
+pub(crate) const CLASSIFICATION: usize = 15;
+
+// The size of the shortest format's records, and a number of records that no LAS 1.2 header can count.
+const SHORTEST: usize = 20;
+
+const TOO_MANY: usize = 4294967296;
 
 // The stored X, Y and Z of a point.
 pub struct Stored {
@@ -45,8 +51,8 @@ pub fn stored_of(point: &[u8]) -> Stored
 pub fn holds(size: usize, record_length: usize, count: usize) -> bool
     ensures { λ r. ⌜ r ≡ inRun count «record_length» size ⌝ }
 {
-    if record_length < 20 {
+    if record_length < SHORTEST {
         return false;
     }
-    (count < 4294967296) & (count <= size / record_length)
+    (count < TOO_MANY) & (count <= size / record_length)
 }

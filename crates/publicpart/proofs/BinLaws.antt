@@ -9,16 +9,16 @@ use mathlib.Core.Bool.{Bool, true, false}
 use mathlib.Core.List.{List, [], _∷_, map}
 use lib.Dec.{eqb}
 use lib.ListN.{length, getD}
+use mir.Val.{boolByte}
 use Rattle.fields.specs.Lists.{kept, consIf, total}
 use Rattle.fields.specs.Bytes.{Bytes}
-use Rattle.points.specs.Points.{bit}
 use Rattle.publicpart.specs.Bounds.{upFrom, bins}
 use Rattle.points.specs.Raw.{returnOf}
 
 -- ---- a count that goes up by one where a test holds
 
-pub length-consIf : {A : Type 0} (b : Bool) (x : A) (xs : List A) → length (consIf b x xs) ≡ bit b + length xs
-unfolding consIf bit
+pub length-consIf : {A : Type 0} (b : Bool) (x : A) (xs : List A) → length (consIf b x xs) ≡ boolByte b + length xs
+unfolding consIf
 length-consIf true x xs = omega arith
 length-consIf false x xs = omega arith
 
@@ -47,18 +47,17 @@ bins-listed f ps = refl
 -- ---- each point is in one bin at most
 
 -- numbers above x
-none-above : (x from n : ℕ) → x < from → total (λ r. bit (eqb x r)) (upFrom from n) ≡ 0
-unfolding total upFrom bit
+none-above : (x from n : ℕ) → x < from → total (λ r. boolByte (eqb x r)) (upFrom from n) ≡ 0
+unfolding total upFrom
 none-above x from zero h = refl
 none-above x from (suc n) h = rw (ne-eqb x from (λ e. omega arith)) (omega (arith, none-above x (suc from) n (omega arith)))
 
-one-at-most : (x from n : ℕ) (b : Bool) → eqb x from ≡ b → total (λ r. bit (eqb x r)) (upFrom (suc from) n) ≤ 1
-    → bit b + total (λ r. bit (eqb x r)) (upFrom (suc from) n) ≤ 1
-unfolding bit
+one-at-most : (x from n : ℕ) (b : Bool) → eqb x from ≡ b → total (λ r. boolByte (eqb x r)) (upFrom (suc from) n) ≤ 1
+    → boolByte b + total (λ r. boolByte (eqb x r)) (upFrom (suc from) n) ≤ 1
 one-at-most x from n true e h = omega (arith, none-above x (suc from) n (omega (arith, eqb-true x from e)))
 one-at-most x from n false e h = omega arith
 
-in-one : (x from n : ℕ) → total (λ r. bit (eqb x r)) (upFrom from n) ≤ 1
+in-one : (x from n : ℕ) → total (λ r. boolByte (eqb x r)) (upFrom from n) ≤ 1
 unfolding total upFrom
 in-one x from zero = omega arith
 in-one x from (suc n) = one-at-most x from n (eqb x from) refl (in-one x (suc from) n)
@@ -79,7 +78,7 @@ bins-total f from n [] = omega (arith, total-zero (upFrom from n))
 bins-total f from n (p ∷ ps) =
     omega (
       arith,
-      split (withReturn f (p ∷ ps)) (λ r. bit (eqb (returnOf f p) r)) (withReturn f ps)
+      split (withReturn f (p ∷ ps)) (λ r. boolByte (eqb (returnOf f p) r)) (withReturn f ps)
           (λ r. length-consIf (eqb (returnOf f p) r) p (kept (λ q. eqb (returnOf f q) r) ps)) (upFrom from n),
       in-one (returnOf f p) from n,
       bins-total f from n ps,

@@ -5,8 +5,7 @@ use Prim.Native.Nat.{ℕ, zero, suc}
 use mathlib.Core.List.{List, [], _∷_, map}
 use lib.ListN.{length, length-map}
 use Rattle.fields.specs.Bytes.{Bytes, join, bytesOf, zeros, numbersBytes}
-use Rattle.scaling.specs.Coordinate.{coordinateBits}
-use Rattle.scaling.specs.Scaling.{boundsOf}
+use Rattle.scaling.specs.Scaling.{coordinateBits, boundsOf}
 use Rattle.scaling.specs.declared.Scaling.{Scaling}
 use Rattle.publicpart.specs.Bounds.{upFrom, bins, largest, smallest, extremesOf, boundNumbers, bounds}
 use Rattle.points.specs.Raw.{stored}

@@ -1,20 +1,14 @@
 -- Laws of the largest and smallest stored values: each is one of the values, and no value lies beyond it.
 -- Assumes nothing.
 use mathlib.Core.Path.{_≡_, refl}
-use Prim.Native.Nat.{ℕ, _*_, _^_, _≤_}
 use native.Mathlib.Omega.{arith}
-use borrow.Author.Tests.{ltb-true, ltb-false}
 use mathlib.Core.Bool.{Bool, true, false, cond}
 use mathlib.Core.List.{List, [], _∷_, List·Memᴰ, List·Memᴰ·head, List·Memᴰ·tail}
-use lib.Dec.{T, ltb, not-T, ltb→lt, le→leb}
-use lib.IntN.{ℤ, pos, negsuc, natAbs}
+use lib.Dec.{T, not-T, ltb→lt, le→leb}
+use lib.IntN.{ℤ, pos, negsuc}
 use lib.Signed.{ltZ, leZ, _≤ℤ_, ltZ-yes, ltZ-no, ≤ℤ-refl, <ℤ-≤ℤ-trans, <ℤ-irrefl}
-use mir.Syntax.{w32}
-use mir.Val.{toZ}
 use Rattle.fields.specs.Lists.{All}
-use Rattle.fields.specs.Bytes.{Bytes, part, num}
-use Rattle.publicpart.specs.Bounds.{largest, smallest}
-use Rattle.points.specs.Raw.{stored}
+use Rattle.publicpart.specs.Bounds.{largerOf, smallerOf, largest, smallest}
 
 -- ---- the order of whole numbers
 
@@ -61,20 +55,10 @@ pub largest-is : (z : ℤ) (ys : List ℤ) → Extreme AtMost (z ∷ ys) (larges
 unfolding largest
 largest-is z [] = record { among = List·Memᴰ·head refl; of-all = (≤ℤ-refl z, tt) }
 largest-is z (y ∷ ys) =
-    choose AtMost ≤ℤ-trans z y ys (largest (cond (ltZ z y) y z) ys) (ltZ z y) (less z y) (no-less z y) (largest-is (cond (ltZ z y) y z) ys)
+    choose AtMost ≤ℤ-trans z y ys (largest (largerOf z y) ys) (ltZ z y) (less z y) (no-less z y) (largest-is (largerOf z y) ys)
 
 pub smallest-is : (z : ℤ) (ys : List ℤ) → Extreme AtLeast (z ∷ ys) (smallest z ys)
 unfolding smallest
 smallest-is z [] = record { among = List·Memᴰ·head refl; of-all = (≤ℤ-refl z, tt) }
 smallest-is z (y ∷ ys) =
-    choose AtLeast (λ a b c h k. ≤ℤ-trans c b a k h) z y ys (smallest (cond (ltZ y z) y z) ys) (ltZ y z) (less y z) (no-less y z) (smallest-is (cond (ltZ y z) y z) ys)
-
--- ---- a stored value has 32 bits
-
-signed-small : (n : ℕ) (b : Bool) → ltb n (2 ^ 31) ≡ b → natAbs (toZ w32 n) ≤ 2 ^ 31
-signed-small n true e = rw e (omega (arith, ltb-true n (2 ^ 31) e))
-signed-small n false e = rw e (omega (arith, ltb-false n (2 ^ 31) e))
-
-pub stored-small : (axis : ℕ) (p : Bytes) → natAbs (stored axis p) ≤ 2 ^ 31
-unfolding stored
-stored-small axis p = signed-small (num (part (4 * axis) 4 p)) (ltb (num (part (4 * axis) 4 p)) (2 ^ 31)) refl
+    choose AtLeast (λ a b c h k. ≤ℤ-trans c b a k h) z y ys (smallest (smallerOf z y) ys) (ltZ y z) (less y z) (no-less y z) (smallest-is (smallerOf z y) ys)

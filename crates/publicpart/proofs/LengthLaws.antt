@@ -8,7 +8,7 @@ use lib.ListN.{length, drop}
 use Rattle.fields.specs.Bytes.{Bytes, AllBytes}
 use Rattle.fields.proofs.ListLaws.{total-kept, length-kept}
 use Rattle.fields.proofs.ByteLaws.{length-pieces}
-use Rattle.lasfile.specs.Records.{walkEnd, recordLen}
+use Rattle.lasfile.specs.Records.{walkEnd, writtenLength}
 use Rattle.lasfile.proofs.vlr.RecordLaws.{walk-total}
 use Rattle.lasfile.specs.HeaderFields.{headerSize, pointOffset, recordCount, recordLength, pointCount}
 use Rattle.lasfile.specs.Passed.{Passed}
@@ -23,7 +23,7 @@ unfolding totals restrict newOffset
 restrict-shorter sheet p =
     omega (
       arith,
-      total-kept (recordLen 2) (keptRecord sheet) (p .records),
+      total-kept (writtenLength 2) (keptRecord sheet) (p .records),
       mul-le-mul-right (p .carried .recordLength) (length-kept (keepsPoint sheet (p .carried .format)) (p .points)),
     )
 

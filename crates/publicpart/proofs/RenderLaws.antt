@@ -6,7 +6,7 @@ use mathlib.Core.List.{_++_, append-assoc}
 use lib.ListN.{length, length-append}
 use Rattle.fields.specs.Lists.{total}
 use Rattle.fields.specs.Bytes.{Bytes, join}
-use Rattle.lasfile.specs.Records.{recordLen, recordsBytes}
+use Rattle.lasfile.specs.Records.{writtenLength, recordsBytes}
 use Rattle.scaling.specs.Scaling.{scalingIn}
 use Rattle.lasfile.specs.HeaderFields.{headerBlock}
 use Rattle.publicpart.specs.Bounds.{bins, bounds}
@@ -15,7 +15,7 @@ use Rattle.publicpart.specs.Head.{Head, headFields}
 use Rattle.publicpart.specs.Render.{newOffset, headOf, render, totals}
 
 module _ (p : Public) where
-  pub new-offset : newOffset p ≡ headerBlock + total (recordLen 2) (p .records)
+  pub new-offset : newOffset p ≡ headerBlock + total (writtenLength 2) (p .records)
   unfolding newOffset
   new-offset = refl
 

@@ -13,7 +13,7 @@ use Rattle.fields.proofs.ByteLaws.{num-part-lt, length-part, length-pieces, pie
 use Rattle.fields.specs.Text.{Held}
 use Rattle.fields.proofs.TextLaws.{held}
 use Rattle.points.specs.Formats.{formatSize}
-use Rattle.lasfile.specs.Records.{walkEnd, recordLen, SoundRecord}
+use Rattle.lasfile.specs.Records.{walkEnd, writtenLength, SoundRecord}
 use Rattle.lasfile.proofs.vlr.RecordLaws.{walk-sound, walk-total, length-walk}
 use Rattle.scaling.specs.Scaling.{scalingIn, goodScaling}
 use Rattle.scaling.proofs.ScalingLaws.{scaling-in}
@@ -85,7 +85,7 @@ sound-restrict sheet p h =
       carried = h .carried;
       records = All-kept (SoundRecord 2) (keptRecord sheet) (p .records) (h .records);
       recordCount = omega (arith, length-kept (keptRecord sheet) (p .records), h .recordCount);
-      offset = omega (arith, total-kept (recordLen 2) (keptRecord sheet) (p .records), h .offset);
+      offset = omega (arith, total-kept (writtenLength 2) (keptRecord sheet) (p .records), h .offset);
       points = All-kept (λ b. length b ≡ p .carried .recordLength) (keepsPoint sheet (p .carried .format)) (p .points) (h .points);
       pointCount = omega (arith, length-kept (keepsPoint sheet (p .carried .format)) (p .points), h .pointCount);
     }

@@ -28,13 +28,19 @@ bins n f ps = map (λ r. length (kept (λ p. eqb (returnOf f p) r) ps)) (upFrom 
 
 -- ---- bounds
 
+abbrev pub largerOf : ℤ → ℤ → ℤ
+largerOf a b = cond (ltZ a b) b a
+
+abbrev pub smallerOf : ℤ → ℤ → ℤ
+smallerOf a b = cond (ltZ b a) b a
+
 unfoldable pub largest : ℤ → List ℤ → ℤ
 largest z [] = z
-largest z (y ∷ ys) = largest (cond (ltZ z y) y z) ys
+largest z (y ∷ ys) = largest (largerOf z y) ys
 
 unfoldable pub smallest : ℤ → List ℤ → ℤ
 smallest z [] = z
-smallest z (y ∷ ys) = smallest (cond (ltZ y z) y z) ys
+smallest z (y ∷ ys) = smallest (smallerOf z y) ys
 
 -- the largest and smallest stored values of a first point and more
 unfoldable pub extremesOf : Bytes → List Bytes → Extremes

@@ -6,7 +6,7 @@ use lib.ListN.{length}
 use Rattle.fields.specs.Lists.{total}
 use Rattle.fields.specs.Bytes.{Bytes, join}
 use Rattle.lasfile.specs.HeaderFields.{headerBlock}
-use Rattle.lasfile.specs.Records.{recordLen, recordsBytes}
+use Rattle.lasfile.specs.Records.{writtenLength, recordsBytes}
 use Rattle.scaling.specs.Scaling.{scalingIn}
 use Rattle.publicpart.specs.Bounds.{bins, bounds}
 use Rattle.publicpart.specs.Public.{Public}
@@ -14,7 +14,7 @@ use Rattle.publicpart.specs.Head.{Head, headFields}
 
 -- the new point offset: the records directly after the header, the points directly after those
 unfoldable pub newOffset : Public → ℕ
-newOffset p = headerBlock + total (recordLen 2) (p .records)
+newOffset p = headerBlock + total (writtenLength 2) (p .records)
 
 unfoldable pub headOf : Public → Head
 headOf p =

@@ -92,10 +92,10 @@ fn creation_of(file: &[u8]) -> Creation
     ensures { λ r. ⌜ r ≡ creationOf (now (file .entry)) ⌝ }
 {
     Creation {
-        system_length: text_length(file, 26),
-        software_length: text_length(file, 58),
-        day: number_at(file, 90, 2),
-        year: number_at(file, 92, 2),
+        system_length: text_length(file, header::SYSTEM),
+        software_length: text_length(file, header::SOFTWARE),
+        day: number_at(file, header::DAY, 2),
+        year: number_at(file, header::YEAR, 2),
     }
 }
 

@@ -15,7 +15,7 @@ use Rattle.fields.proofs.ByteLaws.{pieces-bytes, pieces-back, length-join-piece
 use Rattle.fields.proofs.ListLaws.{kept-same}
 use Rattle.points.proofs.formats.FormatLaws.{shared-first}
 use Rattle.scaling.specs.Scaling.{scalingIn, scalingOf}
-use Rattle.lasfile.specs.Records.{recordLen, recordsBytes}
+use Rattle.lasfile.specs.Records.{writtenLength, recordsBytes}
 use Rattle.lasfile.proofs.vlr.RecordLaws.{length-recordsBytes}
 use Rattle.lasfile.proofs.header.FieldLaws.{count-low}
 use Rattle.lasfile.specs.HeaderFields.{headerBlock, pointOffset, pointCount, recordLength, format}
@@ -23,7 +23,7 @@ use Rattle.lasfile.specs.FileChecks.{fileVerdict}
 use Rattle.lasfile.proofs.Passed.{passed}
 use Rattle.sheet.specs.Keeping.{keepsPoint, TableOf, inTable}
 use Rattle.points.specs.Raw.{pointsOf}
-use Rattle.points.proofs.raw.RunLaws.{Held, points-held}
+use Rattle.points.proofs.raw.RunLaws.{InRun, points-held}
 use Rattle.tally.specs.Tally.{tallyOf}
 use Rattle.tally.proofs.TallyLaws.{tally-count, tally-bins}
 use Rattle.tally.proofs.BoundsLaws.{tally-bounds}
@@ -42,7 +42,8 @@ use Rattle.release.proofs.head.HeadLaws.{whole-head}
 use Rattle.release.specs.declared.vlrs.KeptRecords.{KeptRecords}
 use Rattle.release.specs.KeptRecords.{measured}
 use Rattle.sheet.proofs.class_table.ClassLaws.{table-keeps}
-use Rattle.release.specs.Assembly.{keptPoints, totalsOf, withPoints, written}
+use Rattle.release.specs.Assembly.{totalsOf, withPoints, written}
+use Rattle.release.specs.KeptPoints.{keptPoints}
 use Rattle.release.proofs.kept_points.KeptPointLaws.{kept-held}
 use Rattle.release.proofs.assembly.PointLaws.{with-points}
 use Rattle.release.proofs.assembly.WrittenLaws.{head-said, written-is}
@@ -98,7 +99,7 @@ module _ (sheet s : Bytes) (bytes : AllBytes s) (passes : fileVerdict s ≡ Pass
   length-of-head : length head ≡ headerBlock
   length-of-head = length-head (headOf part-of) (fitting part-of sound-part)
 
-  length-of-records : length records ≡ total (recordLen 2) (part-of .records)
+  length-of-records : length records ≡ total (writtenLength 2) (part-of .records)
   length-of-records = length-recordsBytes 2 (part-of .records) (sound-part .records)
 
   length-of-points : length points ≡ length (part-of .points) * recordLength s
@@ -142,7 +143,7 @@ module _ (sheet s : Bytes) (bytes : AllBytes s) (passes : fileVerdict s ≡ Pass
     run-bytes : AllBytes run
     run-bytes i = rw getD-drop (bytes (pointOffset s + i))
 
-    held : Held (pointCount s) (recordLength s) (length run)
+    held : InRun (pointCount s) (recordLength s) (length run)
     held = record { long = long; few = count-low s bytes; within = simp length-drop (omega (arith, passed s passes .pointed)) }
 
     pub points-are : keptPoints table (format s) (pointCount s) (recordLength s) run ≡ part-of .points

@@ -1,12 +1,11 @@
 -- A released file as it is put together in the output.
 -- Assumes nothing.
-use mathlib.Core.Path.{_≡_}
 use Prim.Native.Nat.{ℕ, _-_}
 use mathlib.Core.Bool.{Bool}
 use mathlib.Core.List.{List, _++_}
 use lib.ListN.{length, take, drop}
 use lib.Seq.{sets}
-use Rattle.fields.specs.Bytes.{Bytes, join, zeros, pieces}
+use Rattle.fields.specs.Bytes.{Bytes, join, zeros}
 use Rattle.lasfile.specs.Records.{recordsBytes}
 use Rattle.scaling.specs.Scaling.{scalingOf}
 use Rattle.lasfile.specs.HeaderFields.{headerBlock, pointOffset, format, recordLength, pointCount}
@@ -16,20 +15,7 @@ use Rattle.tally.specs.declared.Tally.{Tally}
 use Rattle.tally.specs.Tally.{tallyOf, tallyBounds}
 use Rattle.release.specs.declared.head.HeadTotals.{HeadTotals}
 use Rattle.release.specs.Heads.{headBytes}
-use Rattle.fields.specs.Lists.{kept}
-use Rattle.sheet.specs.Keeping.{inTable}
-
--- those of the points of a run, all of one format, that a table keeps
-unfoldable pub keptPoints : List Bool → ℕ → ℕ → ℕ → Bytes → List Bytes
-keptPoints table f count len run = kept (inTable table f) (pointsOf count len run)
-
--- bytes stand at the front of an output as far as it has room for them, and r is how many they are
-abbrev pub AtFront : Bytes → Bytes → ℕ → Bytes → Type 0
-AtFront bytes before r after = (r ≡ length bytes) × (take r after ≡ take (length before) bytes)
-
--- the kept records of a run that holds them all
-abbrev pub keptOf : List Bool → ℕ → ℕ → ℕ → Bytes → List Bytes
-keptOf table f count len run = kept (inTable table f) (pieces count len run)
+use Rattle.release.specs.KeptPoints.{keptPoints}
 
 -- the bytes of the points of a file that a table keeps
 unfoldable pub pointsBytes : List Bool → Bytes → Bytes

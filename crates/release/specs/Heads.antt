@@ -1,9 +1,9 @@
 -- The header of a file and totals.
 -- Assumes nothing.
-use mathlib.Core.Bool.{Bool, true, false}
 use mathlib.Core.List.{[], List, _∷_}
 use lib.ListN.{length, take, drop}
 use lib.Dec.{leb}
+use Rattle.fields.specs.Lists.{listIf}
 use Rattle.fields.specs.Bytes.{Bytes, join, start}
 use Rattle.lasfile.specs.HeaderFields.{headerBlock}
 use Rattle.publicpart.specs.Bounds.{boundNumbers}
@@ -26,13 +26,9 @@ headWith s t =
       bounds = boundNumbers (t .bounds);
     }
 
-unfoldable pub bytesIf : Bool → Bytes → Bytes
-bytesIf true b = b
-bytesIf false b = []
-
 -- the header's bytes; none where the file is shorter than a header
 unfoldable pub headBytes : Bytes → HeadTotals → Bytes
-headBytes s t = bytesIf (leb headerBlock (length s)) (join (headFields (headWith s t)))
+headBytes s t = listIf (leb headerBlock (length s)) (join (headFields (headWith s t)))
 
 -- ---- fields stored one after the other; no public contract cites these
 

@@ -3,14 +3,14 @@
 use mathlib.Core.List.{List, _++_}
 use lib.ListN.{length}
 use Rattle.fields.specs.Lists.{total}
-use Rattle.lasfile.specs.Records.{Record, recordLen}
+use Rattle.lasfile.specs.Records.{Record, writtenLength}
 use Rattle.release.specs.declared.vlrs.KeptRecords.{KeptRecords}
 use Rattle.fields.specs.Bytes.{Bytes, bytesOf, zeros}
 use Rattle.fields.specs.Text.{padded}
 
 -- how many records, and how long they are with their headers
 unfoldable pub measured : List Record → KeptRecords
-measured rs = record { count = length rs; length = total (recordLen 2) rs }
+measured rs = record { count = length rs; length = total (writtenLength 2) rs }
 
 -- ---- the two parts in which a record is written
 

@@ -1,3 +1,4 @@
 pub mod Heads
 pub mod KeptRecords
+pub mod KeptPoints
 pub mod Assembly

@@ -32,7 +32,7 @@ fn put_points(file: &[u8], table: &[bool; 256], start: usize, out: &mut [u8])
 }
 
 // What the header says of `records` records and of the `points` points that stand in the output from `start` on.
-fn totals_of(file: &[u8], points: usize, records: usize, start: usize, out: &[u8]) -> HeadTotals
+fn totals_in(file: &[u8], points: usize, records: usize, start: usize, out: &[u8]) -> HeadTotals
     ensures { λ r. ⌜ r ≡ totalsIn (now (file .entry)) points records start (now (out .entry)) ⌝ }
 {
     let format = header::format(file);
@@ -40,7 +40,7 @@ fn totals_of(file: &[u8], points: usize, records: usize, start: usize, out: &[u8
     let run = slices::part_at(out, start, out.len());
     let tally = tally::tally_points(run, format, record_length, points);
     let bins = tally.bins;
-    let bounds = tally::bounds_of(tally, scaling::Scaling::read(file));
+    let bounds = tally::tally_bounds(tally, scaling::Scaling::read(file));
     HeadTotals {
         offset: start as u64,
         records: records as u64,
@@ -54,7 +54,7 @@ fn totals_of(file: &[u8], points: usize, records: usize, start: usize, out: &[u8
 fn put_header(file: &[u8], points: usize, records: usize, start: usize, out: &mut [u8])
     ensures { λ _. ⌜ now (out .exit) ≡ withHead (now (file .entry)) points records start (now (out .entry)) ⌝ }
 {
-    let totals = totals_of(file, points, records, start, out);
+    let totals = totals_in(file, points, records, start, out);
     head::put_head(file, totals, out);
 }
 

@@ -4,7 +4,7 @@ ghost use mathlib.Core.List.{_++_};
 ghost use Prim.Native.Nat.{_*_, _≤_};
 ghost use lib.ListN.{length, take};
 ghost use Rattle.fields.specs.Bytes.{join, zeros};
-ghost use Rattle.release.specs.Assembly.{keptPoints, keptOf, AtFront};
+ghost use Rattle.release.specs.KeptPoints.{keptPoints, keptOf, AtFront};
 use crate::kept_points;
 use fields::copying;
 use fields::slices;

@@ -11,6 +11,7 @@ use fields::slices;
 use fields::text;
 use lasfile::header;
 use lasfile::header::HEADER_BLOCK;
+use lasfile::header::SCALING;
 use scaling::Bounds;
 use tally::Bins;
 
@@ -29,26 +30,36 @@ fn put_front(source: &[u8], out: &mut [u8])
         → now (out .exit) ≡ fieldsStored 0 5 (headWith (now (source .entry)) t) (now (out .entry))) ⌝ }
 {
     copying::copy(b"LASF", out, 0);
-    copying::copy(slices::part_at(source, 4, 20), out, 4);
-    copying::copy(b"\x01\x02", out, 24);
-    text::put_text(out, 26, 32, source, 26);
-    text::put_text(out, 58, 32, source, 58);
+    copying::copy(slices::part_at(source, header::IDS, 20), out, header::IDS);
+    copying::copy(b"\x01\x02", out, header::VERSION);
+    text::put_text(out, header::SYSTEM, 32, source, header::SYSTEM);
+    text::put_text(out, header::SOFTWARE, 32, source, header::SOFTWARE);
 }
 
 // Places 90 to 130: creation day to points by return.
 fn put_middle(source: &[u8], totals: HeadTotals, out: &mut [u8])
     ensures { λ _. ⌜ now (out .exit) ≡ fieldsStored 5 9 (headWith (now (source .entry)) totals) (now (out .entry)) ⌝ }
 {
-    let day = number_at(source, 90, 2);
-    let year = number_at(source, 92, 2);
-    put_numbers(out, 90, 2, &[day, year, HEADER_BLOCK as u64]);
-    put_numbers(out, 96, 4, &[totals.offset, totals.records]);
-    put_number(out, 104, 1, header::format(source) as u64);
-    put_number(out, 105, 2, header::record_length(source) as u64);
+    let day = number_at(source, header::DAY, 2);
+    let year = number_at(source, header::YEAR, 2);
+    put_numbers(out, header::DAY, 2, &[day, year, HEADER_BLOCK as u64]);
+    put_numbers(
+        out,
+        header::POINT_OFFSET,
+        4,
+        &[totals.offset, totals.records],
+    );
+    put_number(out, header::FORMAT, 1, header::format(source) as u64);
+    put_number(
+        out,
+        header::RECORD_LENGTH,
+        2,
+        header::record_length(source) as u64,
+    );
     let b = totals.bins;
     put_numbers(
         out,
-        107,
+        header::POINT_COUNT,
         4,
         &[totals.points, b.first, b.second, b.third, b.fourth, b.fifth],
     );
@@ -64,11 +75,11 @@ pub(crate) fn put_head(source: &[u8], totals: HeadTotals, out: &mut [u8])
     }
     put_front(source, out);
     put_middle(source, totals, out);
-    copying::copy(slices::part_at(source, 131, 48), out, 131);
+    copying::copy(slices::part_at(source, SCALING, 48), out, SCALING);
     let b = totals.bounds;
     put_numbers(
         out,
-        179,
+        header::BOUNDS,
         8,
         &[b.max_x, b.min_x, b.max_y, b.min_y, b.max_z, b.min_z],
     );

@@ -4,7 +4,7 @@ ghost use mathlib.Core.Path.{_≡_};
 ghost use mathlib.Core.Bool.{cond};
 ghost use Prim.Native.Nat.{_*_, _≤_};
 ghost use lib.ListN.{length};
-ghost use Rattle.release.specs.Assembly.{keptPoints, keptOf};
+ghost use Rattle.release.specs.KeptPoints.{keptPoints, keptOf};
 use points::raw;
 use sheet::class_table;
 

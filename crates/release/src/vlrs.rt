@@ -4,7 +4,7 @@
 ghost use mathlib.Core.Path.{_≡_};
 ghost use Prim.Native.Nat.{_<_, _^_};
 ghost use lib.Seq.{sets};
-ghost use Rattle.lasfile.specs.Records.{recordOf, recordLen, recordBytes};
+ghost use Rattle.lasfile.specs.Records.{recordOf, writtenLength, recordBytes};
 ghost use Rattle.publicpart.specs.Public.{keptRecord, publicOf};
 ghost use Rattle.release.specs.KeptRecords.{measured, nameBytes, contentBytes};
 ghost use Rattle.release.specs.Assembly.{withRecords};
@@ -46,7 +46,7 @@ fn payload_of(vlr: &[u8]) -> &[u8]
 
 // The bytes that it takes in a released file.
 fn written_length(vlr: &[u8]) -> usize
-    ensures { λ r. ⌜ (r ≡ recordLen 2 (recordOf 2 (now (vlr .entry)))) × (r < 2 ^ 17) ⌝ }
+    ensures { λ r. ⌜ (r ≡ writtenLength 2 (recordOf 2 (now (vlr .entry)))) × (r < 2 ^ 17) ⌝ }
 {
     let payload = payload_of(vlr);
     FRONT + payload.len()

@@ -3,13 +3,20 @@
 use Prim.Native.Nat.{ℕ}
 use mathlib.Core.Bool.{Bool, true, false, _&&_}
 use lib.IntN.{ℤ, pos, negsuc}
-use lib.Ieee.{Float, fin, binary64, le, ofBits}
+use lib.Ieee.{Float, fin, binary64, le, ofBits, add, mul, ofInt, toBits}
 use Rattle.fields.specs.Bytes.{Bytes, part, num}
-use Rattle.scaling.specs.Coordinate.{coordinateOf, coordinateBits}
 use Rattle.scaling.specs.declared.Scaling.{Scaling}
 use Rattle.scaling.specs.declared.Coordinates.{Coordinates}
 use Rattle.scaling.specs.declared.Extremes.{Extremes}
 use Rattle.scaling.specs.declared.Bounds.{Bounds}
+
+-- stored value times scale, rounded once, plus offset, rounded once, both to nearest with ties to even
+unfoldable pub coordinateOf : ℤ → Float → Float → Float
+coordinateOf stored scale offset = add binary64 (mul binary64 (ofInt binary64 stored) scale) offset
+
+-- the bits of a coordinate
+unfoldable pub coordinateBits : ℤ → Float → Float → ℕ
+coordinateBits stored scale offset = toBits binary64 (coordinateOf stored scale offset)
 
 -- the double at a place of a file
 unfoldable pub doubleAt : Bytes → ℕ → Float

@@ -1,7 +1,7 @@
 // Doubles, their bits, and the coordinate of a stored value.
 ghost use mathlib.Core.Path.{_≡_};
 ghost use lib.Ieee.{binary64, ofBits, toBits};
-ghost use Rattle.scaling.specs.Coordinate.{coordinateOf, coordinateBits};
+ghost use Rattle.scaling.specs.Scaling.{coordinateOf, coordinateBits};
 
 // The double with these bits. Every NaN pattern gives a NaN: `f64::from_bits` is undefined there.
 pub fn double_of(bits: u64) -> f64

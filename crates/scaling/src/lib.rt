@@ -108,7 +108,7 @@ impl Scaling {
     }
 
     // The bounds by their bits: the coordinates of the largest stored values, and of the smallest.
-    pub fn bounds(self, e: Extremes) -> Bounds
+    pub fn bounds_of(self, e: Extremes) -> Bounds
         ensures { λ r. ⌜ r ≡ boundsOf self e ⌝ }
     {
         let max = self.coordinates(e.max_x, e.max_y, e.max_z);

@@ -3,7 +3,7 @@
 use Prim.Native.Nat.{ℕ, _<_}
 use mathlib.Core.Bool.{Bool, _&&_, true, false}
 use lib.Dec.{leb, eqb}
-use Rattle.fields.specs.Lists.{some}
+use Rattle.fields.specs.Lists.{anyOf}
 use Rattle.fields.specs.Bytes.{Bytes, same}
 use Rattle.points.specs.Raw.{classOf}
 use Rattle.fields.specs.Text.{cut}
@@ -26,14 +26,14 @@ unfoldable pub namesRecord : Bytes → Bytes → ℕ → Bool
 namesRecord l user id = eqb (kind l) 2 && (same (userID l) user && eqb (recordID l) id)
 
 unfoldable pub keepsClass : Bytes → ℕ → Bool
-keepsClass sheet c = some (λ l. containsClass l c) (lines sheet)
+keepsClass sheet c = anyOf (λ l. containsClass l c) (lines sheet)
 
 -- a point by its format and bytes: its class is kept
 unfoldable pub keepsPoint : Bytes → ℕ → Bytes → Bool
 keepsPoint sheet f p = keepsClass sheet (classOf f p)
 
 unfoldable pub keepsRecord : Bytes → Bytes → ℕ → Bool
-keepsRecord sheet user id = some (λ l. namesRecord l user id) (lines sheet)
+keepsRecord sheet user id = anyOf (λ l. namesRecord l user id) (lines sheet)
 
 -- ---- the answer, the sheet's checks first
 

@@ -1,4 +1,4 @@
-// What a keep sheet, once checked, says of a class or a record.
+// Checks a keep sheet, and says whether it keeps a class or a record.
 ghost use mathlib.Core.Path.{_≡_};
 ghost use Rattle.sheet.specs.Keeping.{keptUnder, classKept, recordKept};
 use crate::lookup;

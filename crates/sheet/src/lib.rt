@@ -68,7 +68,7 @@ fn check_body(rest: &[u8]) -> fields::Verdict
 {
     let length = line_length(rest);
     if length < 1 {
-        return fields::Verdict::Fails(refusals::LINE_KIND);
+        return fields::Verdict::Fails(refusals::BAD_KIND);
     }
     if rest.len() < length {
         return fields::Verdict::Fails(refusals::LINE_CUT);
@@ -90,7 +90,7 @@ fn check_line(rest: &[u8]) -> fields::Verdict
     if marked(rest) {
         check_body(rest)
     } else {
-        fields::Verdict::Fails(refusals::LINE_MARK)
+        fields::Verdict::Fails(refusals::BAD_MARK)
     }
 }
 

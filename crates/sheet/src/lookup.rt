@@ -1,6 +1,6 @@
 // Which classes and records a keep sheet keeps, by its lines alone.
 ghost use mathlib.Core.Path.{_≡_};
-ghost use Rattle.fields.specs.Lists.{some};
+ghost use Rattle.fields.specs.Lists.{anyOf};
 ghost use Rattle.fields.specs.Text.{cut};
 ghost use Rattle.sheet.specs.Sheet.{lines};
 ghost use Rattle.sheet.specs.Keeping.{containsClass, namesRecord, keepsClass, keepsRecord, lineKeeps};
@@ -48,7 +48,7 @@ fn line_keeps(line: &[u8], sought: Sought, user: &[u8]) -> bool
 
 // Whether some line of a sheet keeps what is looked for.
 fn some_line_keeps(sheet: &[u8], sought: Sought, user: &[u8]) -> bool
-    ensures { λ r. ⌜ r ≡ some (lineKeeps sought (cut (now (user .entry)))) (lines (now (sheet .entry))) ⌝ }
+    ensures { λ r. ⌜ r ≡ anyOf (lineKeeps sought (cut (now (user .entry)))) (lines (now (sheet .entry))) ⌝ }
 {
     let mut rest = sheet;
     let mut left = crate::MOST_LINES;

@@ -1,32 +1,27 @@
 -- The bounds of a tally of points are those that the released header has of them. Assumes nothing.
 use mathlib.Core.Path.{_≡_, refl, ap, _∙_}
-use Prim.Native.Nat.{ℕ, _*_}
+use Prim.Native.Nat.{ℕ}
 use native.Mathlib.Omega.{arith}
 use mathlib.Core.Bool.{false}
 use mathlib.Core.List.{List, [], _∷_, foldl, map}
 use lib.Dec.{eqb}
 use lib.IntN.{ℤ, pos, negsuc}
-use mir.Syntax.{w32}
-use mir.Val.{SFits}
 use borrow.Author.Tests.{ne-eqb}
-use Rattle.fields.specs.Bytes.{Bytes, part, num}
+use Rattle.fields.specs.Bytes.{Bytes}
 use Rattle.scaling.specs.declared.Scaling.{Scaling}
-use Rattle.publicpart.specs.Bounds.{largest, smallest, extremesOf, boundNumbers, bounds}
+use Rattle.publicpart.specs.Bounds.{largerOf, smallerOf, largest, smallest, extremesOf, boundNumbers, bounds}
 use Rattle.points.specs.Raw.{stored, storedOf}
-use Rattle.tally.specs.Extremes.{largerOf, smallerOf, noExtremes, extremesWith}
-use Rattle.tally.proofs.extremes.ExtremeLaws.{stored-fits, max-first, min-first}
+use Rattle.points.proofs.raw.RawLaws.{stored-fits}
+use Rattle.tally.specs.Extremes.{noExtremes, extremesWith}
+use Rattle.tally.proofs.extremes.ExtremeLaws.{max-first, min-first}
 use Rattle.tally.specs.declared.Tally.{Tally}
 use Rattle.tally.specs.Tally.{noTally, tallyWith, tallied, tallyOf, zeroBounds, boundsUnless, tallyBounds}
 use Rattle.tally.proofs.TallyLaws.{tally-count}
 
-fits : (axis : ℕ) (p : Bytes) → SFits w32 (stored axis p)
-unfolding stored
-fits axis p = stored-fits (num (part (4 * axis) 4 p))
-
 -- the largest value of one axis
 module _ (f axis : ℕ) (max : Tally → ℤ) (step : (t : Tally) (p : Bytes) → max (tallied f t p) ≡ largerOf (max t) (stored axis p)) where
   max-from : (t : Tally) (ps : List Bytes) → max (foldl (tallied f) t ps) ≡ largest (max t) (map (stored axis) ps)
-  unfolding largest largerOf
+  unfolding largest
   max-from t [] = refl
   max-from t (p ∷ ps) = max-from (tallied f t p) ps ∙ ap (λ (z : ℤ). largest z (map (stored axis) ps)) (step t p)
 
@@ -34,12 +29,12 @@ module _ (f axis : ℕ) (max : Tally → ℤ) (step : (t : Tally) (p : Bytes) �
   unfolding tallyOf
   max-of none p ps =
       max-from (tallied f noTally p) ps
-      ∙ ap (λ (z : ℤ). largest z (map (stored axis) ps)) (step noTally p ∙ ap (λ (z : ℤ). largerOf z (stored axis p)) none ∙ max-first (stored axis p) (fits axis p))
+      ∙ ap (λ (z : ℤ). largest z (map (stored axis) ps)) (step noTally p ∙ ap (λ (z : ℤ). largerOf z (stored axis p)) none ∙ max-first (stored axis p) (stored-fits axis p))
 
 -- the smallest
 module _ (f axis : ℕ) (min : Tally → ℤ) (step : (t : Tally) (p : Bytes) → min (tallied f t p) ≡ smallerOf (min t) (stored axis p)) where
   min-from : (t : Tally) (ps : List Bytes) → min (foldl (tallied f) t ps) ≡ smallest (min t) (map (stored axis) ps)
-  unfolding smallest smallerOf
+  unfolding smallest
   min-from t [] = refl
   min-from t (p ∷ ps) = min-from (tallied f t p) ps ∙ ap (λ (z : ℤ). smallest z (map (stored axis) ps)) (step t p)
 
@@ -47,7 +42,7 @@ module _ (f axis : ℕ) (min : Tally → ℤ) (step : (t : Tally) (p : Bytes) �
   unfolding tallyOf
   min-of none p ps =
       min-from (tallied f noTally p) ps
-      ∙ ap (λ (z : ℤ). smallest z (map (stored axis) ps)) (step noTally p ∙ ap (λ (z : ℤ). smallerOf z (stored axis p)) none ∙ min-first (stored axis p) (fits axis p))
+      ∙ ap (λ (z : ℤ). smallest z (map (stored axis) ps)) (step noTally p ∙ ap (λ (z : ℤ). smallerOf z (stored axis p)) none ∙ min-first (stored axis p) (stored-fits axis p))
 
 -- the extremes of a first point and more
 tally-extremes : (f : ℕ) (p : Bytes) (ps : List Bytes) → tallyOf f (p ∷ ps) .extremes ≡ extremesOf p ps

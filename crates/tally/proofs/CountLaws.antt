@@ -1,38 +1,24 @@
 -- Laws of a tally's counts: what one point adds to a bin, and how far the counts can have come.
 -- Assumes nothing.
-use mathlib.Core.Path.{_≡_, refl}
 use Prim.Native.Nat.{ℕ, _+_, _≤_}
 use native.Mathlib.Omega.{arith}
-use mathlib.Core.Bool.{Bool, true, false}
 use lib.Dec.{eqb}
-use mir.Val.{boolByte}
 use Rattle.fields.specs.Bytes.{Bytes}
-use Rattle.points.specs.Points.{bit}
 use Rattle.points.specs.Raw.{returnOf}
+use Rattle.points.proofs.FieldLaws.{flag-le}
 use Rattle.tally.specs.declared.Bins.{Bins}
 use Rattle.tally.specs.declared.Tally.{Tally}
 use Rattle.tally.specs.Tally.{noTally, tallyWith, tallied, binsWith, BinsUpTo, CountsUpTo}
-
--- a test as a number, as the code makes it
-pub as-bit : (b : Bool) → boolByte b ≡ bit b
-unfolding bit
-as-bit true = refl
-as-bit false = refl
-
-pub bit-le : (b : Bool) → bit b ≤ 1
-unfolding bit
-bit-le true = omega arith
-bit-le false = omega arith
 
 bins-with : (b : Bins) (k n m : ℕ) → BinsUpTo b n → n + 1 ≤ m → BinsUpTo (binsWith b k) m
 unfolding binsWith
 bins-with b k n m u h =
     record {
-      first = omega (arith, u .first, bit-le (eqb k 1));
-      second = omega (arith, u .second, bit-le (eqb k 2));
-      third = omega (arith, u .third, bit-le (eqb k 3));
-      fourth = omega (arith, u .fourth, bit-le (eqb k 4));
-      fifth = omega (arith, u .fifth, bit-le (eqb k 5));
+      first = omega (arith, u .first, flag-le (eqb k 1));
+      second = omega (arith, u .second, flag-le (eqb k 2));
+      third = omega (arith, u .third, flag-le (eqb k 3));
+      fourth = omega (arith, u .fourth, flag-le (eqb k 4));
+      fifth = omega (arith, u .fifth, flag-le (eqb k 5));
     }
 
 -- one point more

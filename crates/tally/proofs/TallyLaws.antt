@@ -6,9 +6,9 @@ use native.Mathlib.Omega.{arith}
 use mathlib.Core.List.{List, [], _∷_, foldl}
 use lib.ListN.{length}
 use lib.Dec.{eqb}
+use mir.Val.{boolByte}
 use Rattle.fields.specs.Lists.{kept}
 use Rattle.fields.specs.Bytes.{Bytes}
-use Rattle.points.specs.Points.{bit}
 use Rattle.publicpart.specs.Bounds.{bins}
 use Rattle.points.specs.Raw.{returnOf, storedOf}
 use Rattle.publicpart.proofs.BinLaws.{length-consIf, withReturn, bins-listed}
@@ -37,7 +37,7 @@ tally-count f ps = omega (arith, count-from f noTally ps)
 -- ---- the bins
 
 -- a count of the tally that goes up by one at each point of return number r
-module _ (f r : ℕ) (bin : Tally → ℕ) (step : (t : Tally) (p : Bytes) → bin (tallied f t p) ≡ bin t + bit (eqb (returnOf f p) r)) where
+module _ (f r : ℕ) (bin : Tally → ℕ) (step : (t : Tally) (p : Bytes) → bin (tallied f t p) ≡ bin t + boolByte (eqb (returnOf f p) r)) where
   bin-from : (t : Tally) (ps : List Bytes) → bin (foldl (tallied f) t ps) ≡ bin t + withReturn f ps r
   unfolding kept
   bin-from t [] = omega arith

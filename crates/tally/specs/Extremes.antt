@@ -1,16 +1,9 @@
 -- The stored extremes, updated point by point.
 -- Assumes nothing.
-use mathlib.Core.Bool.{cond}
-use lib.IntN.{ℤ, pos, negsuc}
-use lib.Signed.{ltZ}
+use lib.IntN.{pos, negsuc}
 use Rattle.scaling.specs.declared.Extremes.{Extremes}
 use Rattle.points.specs.declared.raw.Stored.{Stored}
-
-unfoldable pub largerOf : ℤ → ℤ → ℤ
-largerOf a b = cond (ltZ a b) b a
-
-unfoldable pub smallerOf : ℤ → ℤ → ℤ
-smallerOf a b = cond (ltZ b a) b a
+use Rattle.publicpart.specs.Bounds.{largerOf, smallerOf}
 
 -- no point yet: the lowest number of 32 bits for a largest value, the highest for a smallest
 unfoldable pub noExtremes : Extremes

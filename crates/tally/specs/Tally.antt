@@ -3,8 +3,8 @@
 use Prim.Native.Nat.{ℕ, _+_, _≤_}
 use mathlib.Core.List.{List, [], _∷_, foldl}
 use lib.Dec.{eqb}
+use mir.Val.{boolByte}
 use Rattle.fields.specs.Bytes.{Bytes}
-use Rattle.points.specs.Points.{bit}
 use Rattle.points.specs.Raw.{returnOf, storedOf}
 use Rattle.points.specs.declared.raw.Stored.{Stored}
 use Rattle.tally.specs.Extremes.{noExtremes, extremesWith}
@@ -19,11 +19,11 @@ use Rattle.scaling.specs.declared.Bounds.{Bounds}
 unfoldable pub binsWith : Bins → ℕ → Bins
 binsWith b n =
     record {
-      first = b .first + bit (eqb n 1);
-      second = b .second + bit (eqb n 2);
-      third = b .third + bit (eqb n 3);
-      fourth = b .fourth + bit (eqb n 4);
-      fifth = b .fifth + bit (eqb n 5);
+      first = b .first + boolByte (eqb n 1);
+      second = b .second + boolByte (eqb n 2);
+      third = b .third + boolByte (eqb n 3);
+      fourth = b .fourth + boolByte (eqb n 4);
+      fifth = b .fifth + boolByte (eqb n 5);
     }
 
 -- the five bins, from return number 1 on

@@ -1,6 +1,7 @@
 // The stored extremes: the largest and the smallest stored value of each axis.
 ghost use mathlib.Core.Path.{_≡_};
-ghost use Rattle.tally.specs.Extremes.{largerOf, smallerOf, extremesWith};
+ghost use Rattle.publicpart.specs.Bounds.{largerOf, smallerOf};
+ghost use Rattle.tally.specs.Extremes.{extremesWith};
 use points::raw::Stored;
 use scaling::Extremes;
 

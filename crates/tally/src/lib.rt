@@ -6,7 +6,7 @@ ghost use Prim.Native.Nat.{_+_, _*_, _<_, _≤_};
 ghost use lib.ListN.{length};
 ghost use lib.Dec.{eqb};
 ghost use Rattle.fields.specs.Bytes.{pieces};
-ghost use Rattle.points.specs.Points.{bit};
+ghost use mir.Val.{boolByte};
 ghost use Rattle.points.specs.Raw.{pointsOf};
 ghost use Rattle.tally.specs.Tally.{noTally, binsWith, tallyWith, tallied, tallyOf, BinsUpTo, CountsUpTo, tallyBounds};
 use points::raw;
@@ -58,7 +58,7 @@ fn fresh() -> Tally
 // The count of a bin with one return number more.
 fn counted(count: u64, n: u8, bin: u8) -> u64
     requires { ⌜ count ≤ 4294967295 ⌝ }
-    ensures { λ r. ⌜ r ≡ count + bit (eqb n bin) ⌝ }
+    ensures { λ r. ⌜ r ≡ count + boolByte (eqb n bin) ⌝ }
 {
     count + (n == bin) as u64
 }
@@ -144,7 +144,7 @@ pub fn tally_points(run: &[u8], format: u8, record_length: usize, count: usize) 
 }
 
 // The bits of the bounds: of the coordinates of the extremes, or of +0.0 where there is no point.
-pub fn bounds_of(t: Tally, s: Scaling) -> Bounds
+pub fn tally_bounds(t: Tally, s: Scaling) -> Bounds
     ensures { λ r. ⌜ r ≡ tallyBounds t s ⌝ }
 {
     if t.count == 0 {
@@ -157,5 +157,5 @@ pub fn bounds_of(t: Tally, s: Scaling) -> Bounds
             min_z: 0,
         };
     }
-    s.bounds(t.extremes)
+    s.bounds_of(t.extremes)
 }

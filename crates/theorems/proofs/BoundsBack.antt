@@ -14,15 +14,15 @@ use lib.Ieee.Bits.{ofBits-toBits, toBits-lt}
 use Rattle.fields.specs.Lists.{All}
 use Rattle.fields.specs.Bytes.{Bytes, part, numbersBytes}
 use Rattle.scaling.specs.declared.Scaling.{Scaling}
-use Rattle.scaling.specs.Coordinate.{coordinateOf, coordinateBits}
-use Rattle.scaling.specs.Scaling.{doubleAt, scalingOf, goodScaling}
+use Rattle.scaling.specs.Scaling.{coordinateOf, coordinateBits, doubleAt, scalingOf, goodScaling}
 use Rattle.theorems.specs.Coordinates.{Axis, X, Y, Z, axisScale, axisOffset, Fits32, FiniteInOrder}
 use Rattle.theorems.proofs.scaling.CoordinateTheorems.{passing}
 use Rattle.fields.proofs.arrays.NumberLaws.{numbers-back}
 use Rattle.publicpart.specs.Bounds.{largest, smallest, bounds}
 use Rattle.points.specs.Raw.{stored}
 use Rattle.publicpart.proofs.BoundLaws.{length-bounds, bounds-some}
-use Rattle.publicpart.proofs.ExtremeLaws.{Extreme, AtMost, AtLeast, largest-is, smallest-is, stored-small}
+use Rattle.publicpart.proofs.ExtremeLaws.{Extreme, AtMost, AtLeast, largest-is, smallest-is}
+use Rattle.points.proofs.raw.RawLaws.{stored-small}
 use Rattle.theorems.specs.BoundsOfKept.{axisNumber, maxOf, minOf, coordinateAt, Between, OfPoint, Bounded}
 
 -- a coordinate's bits have 64 places, and are the coordinate again

@@ -48,9 +48,9 @@ use Rattle.capi.specs.RecordAnswers.{foundRecord, noRecord, recordNumbers, geok
 use Rattle.capi.specs.PointAnswers.{foundPoint, noPoint, pointNumbers, decodedNumbers, givenPoint}
 use Rattle.capi.specs.HeaderAnswers.{foundHeader, noHeader, headerNumbers}
 use Rattle.capi.specs.Interface.{lasCheckFile, lasCheckSheet, lasReadHeader, lasVlrStep, lasPointAt, lasDecode, lasEncode, lasClassKept, lasRecordKept, lasGeokeyFind, lasRelease}
-use Rattle.theorems.specs.Terms.{needed}
+use Rattle.theorems.specs.Terms.{needed, refusal}
 use Rattle.theorems.specs.Tables.{ByTable, linesChecks, sheetChecks, isSome, chosen, valueChecks, parameterChecks, entryTable, keyTable, directoryTable, lookupChecks, releaseChecks}
-use Rattle.theorems.specs.Demand1.{NothingChanged, refusal, ZerosBeside, EachNumber, Demand1}
+use Rattle.theorems.specs.Demand1.{NothingChanged, ZerosBeside, EachNumber, Demand1}
 use Rattle.theorems.specs.ZeroWhereAccepted.{isReleased, isZero}
 use Rattle.theorems.proofs.capi.NumberLaws.{Without}
 use Rattle.theorems.proofs.TableLaws.{joined, without-both, table-laws, never-given, follows}
@@ -404,7 +404,6 @@ unfolding lasCheckFile lasCheckSheet lasReadHeader lasVlrStep lasPointAt lasDeco
     header.headerRead stepOf pointAtOf points.decoded encoding.encoded points.decodeChecks encoding.encodeChecks releaseChecks Without isZero
 each-number =
     record {
-      sheet-verdict = sheet-first;
       check-file = λ file. follows (numberOf (fileVerdict file)) (fileChecks file) (file-above file) (ap numberOf (file-first file));
       check-sheet = λ sheet. by-sheet sheet (numberOf (sheetVerdict sheet)) refl;
       read-header =
@@ -426,4 +425,11 @@ each-number =
     }
 
 pub demand1 : Demand1
-demand1 = record { nothing-changed = nothing-changed; zeros-beside = zeros-beside; tables = table-laws; each-number = each-number }
+demand1 =
+    record {
+      nothing-changed = nothing-changed;
+      zeros-beside = zeros-beside;
+      tables = table-laws;
+      sheet-verdict = sheet-first;
+      each-number = each-number;
+    }

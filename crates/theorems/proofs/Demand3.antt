@@ -13,8 +13,8 @@ use Rattle.publicpart.specs.Render.{render}
 use Rattle.publicpart.specs.Release.{Outcome, release}
 use Rattle.capi.specs.Answers.{releasedNumbers}
 use Rattle.publicpart.specs.declared.Answer.the-variants.{Short}
-use Rattle.theorems.specs.Terms.{Good, needed, Accepted, OfOutput}
-use Rattle.theorems.specs.Demand3.{tooShort, inLength, Demand3}
+use Rattle.theorems.specs.Terms.{Good, needed, refusal, Accepted, OfOutput}
+use Rattle.theorems.specs.Demand3.{inLength, Demand3}
 use Rattle.publicpart.proofs.AnswerLaws.{release-long, release-short}
 use Rattle.theorems.proofs.ReleaseLaws.{released-public, Known, accepted-output, accepted-means, of-output, again-at, in-length, own-length}
 
@@ -35,8 +35,8 @@ module _ (sheet : Bytes) (sheetGood : sheetVerdict sheet ≡ Passes) where
       ∙ rw (e, same) (sym (release-long sheet g b (goodG .passes) sheetGood roomG))
 
   too-short : (f a : Bytes) → Good f → (n : ℕ) → needed sheet f ≡ n → length a < n
-      → (releasedNumbers (release sheet f a .0) ≡ tooShort n) × (release sheet f a .1 ≡ a)
-  unfolding releasedNumbers
+      → (releasedNumbers (release sheet f a .0) ≡ refusal 30 n) × (release sheet f a .1 ≡ a)
+  unfolding releasedNumbers refusal
   too-short f a good n e less =
       let r : release sheet f a ≡ (Short (needed sheet f), a) = release-short sheet f a (good .passes) sheetGood (rw e less) in
       (rw (r, e), rw r)

@@ -7,23 +7,23 @@ use Prim.Native.Nat.{ℕ, zero, suc, _+_, _^_, _≤_, _<_}
 use native.Mathlib.Omega.{arith}
 use mathlib.Core.Bool.{Bool, true, false, _&&_}
 use mathlib.Core.List.{[], _∷_, _++_}
-use lib.Dec.{T, ltb, ltb→lt, lit≤, lit<}
+use lib.Dec.{T, eqb, ltb, ltb→lt, lit≤, lit<}
 use lib.ListN.{length, drop}
 use lib.IntN.{ℤ, pos, negsuc, _+ℤ_, _*ℤ_}
 use lib.Ieee.{binary64, ofInt, fin}
 use lib.Ieee.Fits.{and-l, and-r}
-use Rattle.fields.specs.Lists.{total}
+use Rattle.fields.specs.Lists.{kept, total}
 use Rattle.fields.specs.Bytes.{Bytes, AllBytes, part, num, zeros}
 use Rattle.fields.specs.declared.Verdict.the-variants.{Passes, Fails}
-use Rattle.fields.specs.Checks.{not-so, _below_}
 use Rattle.points.specs.Encoding.{InRange, large, encodeChecks, storedIf, encoded}
 use Rattle.points.specs.declared.Decoded.the-variants.{Fields}
 use Rattle.points.specs.Formats.{formatSize}
 use Rattle.points.specs.Points.{decoded}
-use Rattle.scaling.specs.Coordinate.{coordinateOf}
-use Rattle.scaling.specs.Scaling.{scalingOf, goodScaling}
-use Rattle.lasfile.specs.HeaderFields.{headerSize, recordCount}
-use Rattle.lasfile.specs.Records.{places, recordLen, SoundRecord}
+use Rattle.points.specs.Raw.{returnOf}
+use Rattle.scaling.specs.Scaling.{coordinateOf, scalingOf, goodScaling}
+use Rattle.lasfile.specs.Inputs.{inputChecks}
+use Rattle.lasfile.specs.HeaderFields.{headerSize, recordCount, format}
+use Rattle.lasfile.specs.Records.{places, writtenLength, SoundRecord}
 use Rattle.sheet.specs.Sheet.{sheetVerdict, lines}
 use Rattle.publicpart.specs.Public.{publicOf}
 use Rattle.publicpart.specs.declared.Answer.the-variants.{Released}
@@ -40,13 +40,15 @@ use Rattle.capi.specs.HeaderAnswers.{headerNumbers, noHeader}
 use Rattle.capi.specs.RecordAnswers.{recordNumbers, noRecord, geokeyNumbers}
 use Rattle.capi.specs.PointAnswers.{pointNumbers, noPoint, decodedNumbers}
 use Rattle.theorems.specs.ZeroWhereAccepted.{isReleased}
-use Rattle.theorems.specs.Terms.{Good, needed, Accepted}
+use Rattle.theorems.specs.Terms.{Good, needed, refusal, Accepted}
 use Rattle.theorems.specs.Coordinates.{X, Fits32, Times, Exact}
 use Rattle.theorems.specs.Demand3.{Same}
 use Rattle.theorems.specs.Recognised.{OutputUnder, GivesItself}
-use Rattle.theorems.specs.Demand1.{NothingChanged, refusal, ZerosBeside, EachNumber}
+use Rattle.theorems.specs.ReleasedFile.{pointsKept}
+use Rattle.theorems.specs.BoundsOfKept.{Binned}
+use Rattle.theorems.specs.Demand1.{NothingChanged, ZerosBeside, EachNumber}
 use Rattle.theorems.specs.Samples.{sheet3, sheet4, sheet5, sheet6, point7, used, half, ten, file9}
-use Rattle.theorems.specs.Instances.{other9, filled, output9, fields7, numbers7, oneRecord, sheetA7, sheet64, NothingChangedMet, ZerosBesideMet, EachNumberMet, ExactlyMet, ShortMet, AgainMet, RecognisedMet, CompleteMet, NeverLongerMet, BoundsOfKeptMet, SheetsMet, FilesMet, VisitsMet, RoundTripsMet, CoordinatesMet, OwnBitsMet}
+use Rattle.theorems.specs.Instances.{other9, filled, output9, OfOutput9, fields7, numbers7, oneRecord, sheetA7, sheet64, NothingChangedMet, ZerosBesideMet, EachNumberMet, ExactlyMet, ShortMet, AgainMet, RecognisedMet, CompleteMet, NeverLongerMet, BoundsOfKeptMet, SheetsMet, FilesMet, VisitsMet, RoundTripsMet, CoordinatesMet, OwnBitsMet}
 use Rattle.theorems.proofs.Samples.{computed}
 use Rattle.theorems.proofs.Demand1.{demand1}
 use Rattle.theorems.proofs.Demand3.{demand3}
@@ -159,12 +161,24 @@ nothing9 : Accepted [] file9 (used 227) 227 0 0
 unfolding computed
 nothing9 = record { bytes = good9 .bytes; answer = refl }
 
+binned9 : OfOutput9 (λ out. Binned file9 out (pointsKept sheet3 file9))
+binned9 = bounds-of-kept .binned sheet3 file9 (filled 7) 255 1 0 accepted9
+
+-- one kept point has return number 1
+first-returns9 : length (kept (λ p. eqb (returnOf (format file9) p) 1) (pointsKept sheet3 file9)) ≡ 1
+unfolding computed
+first-returns9 = refl
+
 pub bounds-of-kept-met : BoundsOfKeptMet
 bounds-of-kept-met =
     record {
       bounded = bounds-of-kept .bounded sheet3 file9 (filled 7) 255 1 0 accepted9 (lit≤ tt) X;
       no-points = bounds-of-kept .no-points [] file9 (used 227) 227 0 0 nothing9 refl;
-      binned = bounds-of-kept .binned sheet3 file9 (filled 7) 255 1 0 accepted9;
+      binned = binned9;
+      first-bin = (
+        binned9 .0 .each 1 (lit≤ tt) (lit≤ tt) ∙ first-returns9,
+        binned9 .1 .each 1 (lit≤ tt) (lit≤ tt) ∙ first-returns9,
+      );
     }
 
 output-bytes9 : AllBytes output9
@@ -259,7 +273,7 @@ pub each-number-met : EachNumberMet
 each-number-met =
     let numbers : EachNumber = demand1 .each-number in
     record {
-      table = demand1 .tables .given ((51, not-so true) ∷ (50, 32768 below 40000) ∷ []) 50 .0 (unfold computed in refl);
+      table = demand1 .tables .given (inputChecks true 40000) 50 .0 (unfold computed inputChecks in refl);
       check-file = numbers .check-file (zeros 226) .refuses 0 .0 (computed-numbers .check-file);
       check-sheet = numbers .check-sheet sheet4 .refuses 22 .0 (computed-numbers .check-sheet);
       read-header = numbers .read-header (zeros 227) .refuses 1 .0 (computed-numbers .read-header);
@@ -297,7 +311,7 @@ sound-record =
       payload = lit< tt;
     }
 
-total-one : 5 + total (recordLen 2) (oneRecord ∷ []) ≡ 61
+total-one : 5 + total (writtenLength 2) (oneRecord ∷ []) ≡ 61
 unfolding computed
 total-one = refl
 
@@ -358,11 +372,20 @@ encoded7 : encoded 0 20 fields7 (used 20) .0 ≡ Passes
 unfolding computed encodeChecks large storedIf encoded
 encoded7 = refl
 
+size0 : formatSize 0 ≡ 20
+unfolding computed
+size0 = refl
+
+encoded24 : encoded 0 24 fields7 (used 24) .0 ≡ Passes
+unfolding computed encodeChecks large storedIf encoded
+encoded24 = refl
+
 pub round-trips-met : RoundTripsMet
 round-trips-met =
     record {
       encode-after-decode = round-trips .encode-after-decode 0 20 (point7 2) (used 20) fields7 point-bytes7 decoded7 refl room7;
       decode-after-encode = round-trips .decode-after-encode 0 20 (used 20) fields7 in-range7 encoded7;
+      extra-stay = rw size0 at (round-trips .extra-stay 0 24 fields7 (used 24) encoded24);
     }
 
 -- ---- coordinates

@@ -7,7 +7,7 @@ use lib.ListN.{length, drop, length-append, length-replicate}
 use lib.Seq.{drop-at}
 use Rattle.fields.specs.Lists.{total}
 use Rattle.fields.specs.Bytes.{Bytes, zeros}
-use Rattle.lasfile.specs.Records.{recordLen}
+use Rattle.lasfile.specs.Records.{writtenLength}
 use Rattle.lasfile.specs.HeaderFields.{headerBlock, recordLength}
 use Rattle.publicpart.specs.Public.{Public, contents, publicOf}
 use Rattle.publicpart.specs.Render.{render}
@@ -30,7 +30,7 @@ holds sheet f out e =
 
 length-is : (sheet f : Bytes) → Good f
     → needed sheet f
-    ≡ headerBlock + total (recordLen 2) (recordsKept sheet f) + length (pointsKept sheet f) * recordLength f
+    ≡ headerBlock + total (writtenLength 2) (recordsKept sheet f) + length (pointsKept sheet f) * recordLength f
 length-is sheet f good =
     let p : Public = publicOf sheet f in
     length-render p (public-sound sheet f good)

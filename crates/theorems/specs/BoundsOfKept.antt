@@ -8,8 +8,7 @@ use lib.ListN.{length}
 use lib.Ieee.{Float, le}
 use Rattle.fields.specs.Lists.{All, kept, total}
 use Rattle.fields.specs.Bytes.{Bytes, part, num, zeros}
-use Rattle.scaling.specs.Coordinate.{coordinateOf}
-use Rattle.scaling.specs.Scaling.{doubleAt, scalingOf}
+use Rattle.scaling.specs.Scaling.{coordinateOf, doubleAt, scalingOf}
 use Rattle.theorems.specs.Coordinates.{Axis, X, Y, Z, axisScale, axisOffset}
 use Rattle.lasfile.specs.HeaderFields.{format}
 use Rattle.points.specs.Raw.{returnOf, stored}

@@ -12,8 +12,7 @@ use lib.Ieee.{Float, nan, inf, fin, up, down, binary64, le, toBits, ofInt}
 use lib.Ieee.Scale.{finite}
 use Rattle.fields.specs.Bytes.{Bytes, AllBytes, part, num}
 use Rattle.fields.specs.declared.Verdict.the-variants.{Passes}
-use Rattle.scaling.specs.Coordinate.{coordinateOf}
-use Rattle.scaling.specs.Scaling.{scalingOf, goodScaling}
+use Rattle.scaling.specs.Scaling.{coordinateOf, scalingOf, goodScaling}
 use Rattle.scaling.specs.declared.Scaling.{Scaling}
 use Rattle.lasfile.specs.FileChecks.{fileVerdict}
 use Rattle.capi.specs.Interface.{lasReadHeader}
@@ -58,7 +57,7 @@ Times k (fin s m e) z = signed s (m * up e * 2 ^ k) ≡ z *ℤ pos (down e)
 
 -- ---- what is said of a scale and an offset
 
--- a stored value is a whole number of 32 bits
+-- a stored value is a whole number of at most 32 bits, 2 ^ 31 too
 unfoldable pub Fits32 : ℤ → Type 0
 Fits32 z = natAbs z ≤ 2 ^ 31
 

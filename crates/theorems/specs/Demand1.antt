@@ -5,9 +5,8 @@
 use mathlib.Core.Path.{_≡_}
 use mathlib.Core.Logic.{_↔_}
 use Prim.Native.Nat.{ℕ, suc}
-use mathlib.Core.Bool.{false, cond}
+use mathlib.Core.Bool.{false}
 use mathlib.Core.List.{List, _++_}
-use lib.Dec.{eqb}
 use Rattle.fields.specs.Bytes.{Bytes}
 use Rattle.fields.specs.Checks.{Check, firstFailing, AllClear}
 use Rattle.fields.specs.declared.Verdict.the-variants.{Passes, Fails}
@@ -19,13 +18,12 @@ use Rattle.reader.specs.Steps.{stepChecks}
 use Rattle.reader.specs.OnePoint.{pointChecks}
 use Rattle.sheet.specs.Sheet.{sheetVerdict}
 use Rattle.publicpart.specs.Release.{release}
-use Rattle.capi.specs.declared.answers.«las_released».{«las_released»}
 use Rattle.capi.specs.HeaderAnswers.{noHeader}
 use Rattle.capi.specs.RecordAnswers.{noRecord}
 use Rattle.capi.specs.PointAnswers.{noPoint, givenPoint}
 use Rattle.capi.specs.declared.point.«las_point».{«las_point»}
 use Rattle.capi.specs.Interface.{lasCheckFile, lasCheckSheet, lasReadHeader, lasVlrStep, lasPointAt, lasDecode, lasEncode, lasClassKept, lasRecordKept, lasGeokeyFind, lasRelease}
-use Rattle.theorems.specs.Terms.{needed}
+use Rattle.theorems.specs.Terms.{needed, refusal}
 use Rattle.theorems.specs.Tables.{Given, ByTable, sheetChecks, lookupChecks, releaseChecks}
 use Rattle.theorems.specs.ZeroWhereAccepted.{isReleased}
 
@@ -43,10 +41,6 @@ pub record NothingChanged : Type 0 where
   -- the output of `las_release`, where its number is not 0
   pub las-release : (file sheet out : Bytes) (n : ℕ)
       → lasRelease file sheet out .0 .number ≡ suc n → lasRelease file sheet out .1 ≡ out
-
--- what a release answers where it is refused: 30 has the needed length beside it
-unfoldable pub refusal : ℕ → ℕ → «las_released»
-refusal n needed = record { number = n; length = cond (eqb n 30) needed 0; points = 0; records = 0 }
 
 -- a refusal has zeros beside its number
 pub record ZerosBeside : Type 0 where
@@ -83,8 +77,6 @@ pub record TableLaws : Type 0 where
 
 -- each exported function gives the numbers of one table
 pub record EachNumber : Type 0 where
-  -- a sheet's verdict is the first failing check of its table
-  pub sheet-verdict : (sheet : Bytes) → sheetVerdict sheet ≡ firstFailing (sheetChecks sheet)
   -- 1 to 10
   pub check-file : (file : Bytes) → ByTable (lasCheckFile file) (fileChecks file)
   -- 20 to 24
@@ -120,5 +112,7 @@ pub record Demand1 : Type 0 where
   pub zeros-beside : ZerosBeside
   -- what any table of checks gives
   pub tables : TableLaws
-  -- what each function gives
+  -- a sheet's verdict, which goes line by line, is the first failing check of one table
+  pub sheet-verdict : (sheet : Bytes) → sheetVerdict sheet ≡ firstFailing (sheetChecks sheet)
+  -- what each exported function gives
   pub each-number : EachNumber

@@ -11,16 +11,11 @@ use Rattle.sheet.specs.Sheet.{sheetVerdict}
 use Rattle.publicpart.specs.Public.{publicOf}
 use Rattle.publicpart.specs.Release.{Outcome, release}
 use Rattle.capi.specs.Answers.{releasedNumbers}
-use Rattle.capi.specs.declared.answers.«las_released».{«las_released»}
-use Rattle.theorems.specs.Terms.{Good, needed, Accepted, OfOutput}
+use Rattle.theorems.specs.Terms.{Good, needed, refusal, Accepted, OfOutput}
 
 -- the same four numbers, and the same output whole
 abbrev pub Same : Outcome → Outcome → Type 0
 Same x y = (releasedNumbers (x .0) ≡ releasedNumbers (y .0)) × (x .1 ≡ y .1)
-
--- 30 and the needed length
-abbrev pub tooShort : ℕ → «las_released»
-tooShort n = record { number = 30; length = n; points = 0; records = 0 }
 
 -- the outcome of a release with its output cut at n and filled with zeros to another length
 abbrev pub inLength : ℕ → ℕ → Outcome → Outcome
@@ -36,8 +31,8 @@ pub record Demand3 : Type 0 where
   -- nothing
   pub short : (sheet f g a b : Bytes) → sheetVerdict sheet ≡ Passes → Good f → Good g → length a ≡ length b
       → publicOf sheet f ≡ publicOf sheet g → length a < needed sheet f
-      → (releasedNumbers (release sheet f a .0) ≡ tooShort (needed sheet f)) × (release sheet f a .1 ≡ a)
-      × (releasedNumbers (release sheet g b .0) ≡ tooShort (needed sheet f)) × (release sheet g b .1 ≡ b)
+      → (releasedNumbers (release sheet f a .0) ≡ refusal 30 (needed sheet f)) × (release sheet f a .1 ≡ a)
+      × (releasedNumbers (release sheet g b .0) ≡ refusal 30 (needed sheet f)) × (release sheet g b .1 ≡ b)
   -- the output of an accepted release, released again into any output that has room: the same answer, and the released
   -- file with zeros behind it
   pub again : (sheet f a b : Bytes) (n points records : ℕ) → Accepted sheet f a n points records → n ≤ length b

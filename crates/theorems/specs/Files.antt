@@ -11,7 +11,7 @@ use Rattle.fields.specs.Bytes.{Bytes}
 use Rattle.fields.specs.declared.Verdict.the-variants.{Passes}
 use Rattle.lasfile.specs.FileChecks.{fileVerdict}
 use Rattle.lasfile.specs.Passed.{Passed}
-use Rattle.lasfile.specs.Records.{SoundRecord, Record, walk, walkEnd, recordsBytes, recordLen}
+use Rattle.lasfile.specs.Records.{SoundRecord, Record, walk, walkEnd, recordsBytes, writtenLength}
 
 pub record Files : Type 0 where
   -- a file passes the file checks exactly if it is as `Passed` says, fact by fact
@@ -22,4 +22,4 @@ pub record Files : Type 0 where
   -- and it ends where they do
   pub walk-end-back : (lw : ℕ) (rs : List Record) → All (SoundRecord lw) rs → (at : ℕ) (pre rest : Bytes)
       → length pre ≡ at
-      → walkEnd lw (length rs) at (pre ++ (recordsBytes lw rs ++ rest)) ≡ at + total (recordLen lw) rs
+      → walkEnd lw (length rs) at (pre ++ (recordsBytes lw rs ++ rest)) ≡ at + total (writtenLength lw) rs

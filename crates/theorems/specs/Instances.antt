@@ -11,14 +11,14 @@ use lib.Ieee.{Float, binary64, fin, le, ofInt}
 use lib.Ieee.Scale.{finite}
 use mathlib.Core.Bool.{true, false}
 use Rattle.fields.specs.Bytes.{Bytes, part, num, zeros, join}
-use Rattle.fields.specs.Checks.{AllClear, not-so, _below_}
+use Rattle.fields.specs.Checks.{AllClear}
 use Rattle.fields.specs.declared.Verdict.the-variants.{Passes}
 use Rattle.points.specs.declared.Point.{Point}
 use Rattle.points.specs.declared.Decoded.the-variants.{Fields}
 use Rattle.points.specs.Points.{pointOf, decodeChecks, decoded}
 use Rattle.points.specs.Encoding.{encodeChecks, encoded, blank}
-use Rattle.scaling.specs.Coordinate.{coordinateOf}
-use Rattle.scaling.specs.Scaling.{scalingOf}
+use Rattle.scaling.specs.Scaling.{coordinateOf, scalingOf}
+use Rattle.lasfile.specs.Inputs.{inputChecks}
 use Rattle.lasfile.specs.FileChecks.{fileChecks, fileVerdict}
 use Rattle.lasfile.specs.Passed.{Passed}
 use Rattle.lasfile.specs.Records.{Record, walk, walkEnd, recordsBytes}
@@ -35,13 +35,13 @@ use Rattle.capi.specs.RecordAnswers.{noRecord}
 use Rattle.capi.specs.PointAnswers.{noPoint, givenPoint}
 use Rattle.capi.specs.declared.point.«las_point».{«las_point»}
 use Rattle.capi.specs.Interface.{lasReadHeader, lasVlrStep, lasPointAt, lasDecode, lasEncode, lasClassKept, lasRecordKept, lasGeokeyFind, lasRelease}
-use Rattle.theorems.specs.Terms.{OfOutput}
+use Rattle.theorems.specs.Terms.{refusal, OfOutput}
 use Rattle.theorems.specs.Tables.{Given, sheetChecks, lookupChecks, releaseChecks}
-use Rattle.theorems.specs.Demand3.{Same, tooShort, inLength}
+use Rattle.theorems.specs.Demand3.{Same, inLength}
 use Rattle.theorems.specs.Recognised.{OutputUnder, GivesItself}
 use Rattle.theorems.specs.ReleasedFile.{pointsKept, Holds, CountsKept}
 use Rattle.theorems.specs.Coordinates.{X, axisScale, axisOffset, Times, CarriedBits}
-use Rattle.theorems.specs.BoundsOfKept.{Bounded, Binned}
+use Rattle.theorems.specs.BoundsOfKept.{Bounded, binOf, Binned}
 use Rattle.theorems.specs.Sheets.{line, SomeLine}
 use Rattle.theorems.specs.Visits.{cursor}
 use Rattle.theorems.specs.Samples.{sheet3, sheet4, sheet5, sheet6, point7, half, ten, used, file9}
@@ -118,7 +118,7 @@ pub record ZerosBesideMet : Type 0 where
 
 pub record EachNumberMet : Type 0 where
   -- the program's table gives 50 for a file of 40,000 bytes
-  pub table : Given ((51, not-so true) ∷ (50, 32768 below 40000) ∷ []) 50
+  pub table : Given (inputChecks true 40000) 50
   -- 226 bytes give 1
   pub check-file : Given (fileChecks (zeros 226)) 1
   -- sample P4's sheet gives 23
@@ -158,9 +158,9 @@ pub record ExactlyMet : Type 0 where
 
 pub record ShortMet : Type 0 where
   -- into 254 bytes
-  pub short : (releasedNumbers (release sheet3 file9 (used 254) .0) ≡ tooShort 255)
+  pub short : (releasedNumbers (release sheet3 file9 (used 254) .0) ≡ refusal 30 255)
       × (release sheet3 file9 (used 254) .1 ≡ used 254)
-      × (releasedNumbers (release sheet3 other9 (zeros 254) .0) ≡ tooShort 255)
+      × (releasedNumbers (release sheet3 other9 (zeros 254) .0) ≡ refusal 30 255)
       × (release sheet3 other9 (zeros 254) .1 ≡ zeros 254)
 
 pub record AgainMet : Type 0 where
@@ -204,6 +204,8 @@ pub record BoundsOfKeptMet : Type 0 where
   pub no-points : OfOutput [] file9 (used 227) 227 (λ out. part 179 48 out ≡ zeros 48)
   -- its bins count that point
   pub binned : OfOutput9 (λ out. Binned file9 out (pointsKept sheet3 file9))
+  -- the first bin is 1: the kept point has return number 1
+  pub first-bin : OfOutput9 (λ out. binOf out 1 ≡ 1)
 
 -- ---- sheets, files, points, coordinates
 
@@ -238,6 +240,8 @@ pub record RoundTripsMet : Type 0 where
   pub encode-after-decode : encoded 0 20 fields7 (used 20) ≡ (Passes, point7 2)
   -- and its fields from their bytes
   pub decode-after-encode : decoded 0 20 (encoded 0 20 fields7 (used 20) .1) ≡ Fields (blank 0 fields7)
+  -- of a room of 24 bytes the last four stay
+  pub extra-stay : drop 20 (encoded 0 24 fields7 (used 24) .1) ≡ used 4
 
 -- an X coordinate of the file
 abbrev pub at9 : ℤ → Float

@@ -8,7 +8,7 @@ use lib.ListN.{length, drop}
 use Rattle.fields.specs.Lists.{kept, total}
 use Rattle.fields.specs.Bytes.{Bytes, zeros}
 use Rattle.fields.specs.declared.Verdict.the-variants.{Passes}
-use Rattle.lasfile.specs.Records.{Record, recordLen}
+use Rattle.lasfile.specs.Records.{Record, writtenLength}
 use Rattle.lasfile.specs.HeaderFields.{headerBlock, format, recordLength}
 use Rattle.lasfile.specs.FileChecks.{fileVerdict}
 use Rattle.sheet.specs.Sheet.{sheetVerdict}
@@ -44,7 +44,7 @@ pub record CountsKept (sheet f : Bytes) (n points records : ℕ) : Type 0 where
   pub records-are : records ≡ length (recordsKept sheet f)
   -- the length is that of a header, the records and the points: there is no room for anything else
   pub length-is : n
-      ≡ headerBlock + total (recordLen 2) (recordsKept sheet f) + length (pointsKept sheet f) * recordLength f
+      ≡ headerBlock + total (writtenLength 2) (recordsKept sheet f) + length (pointsKept sheet f) * recordLength f
 
 pub record Complete : Type 0 where
   -- the output, read as a file, holds the public part of the source

@@ -1,5 +1,5 @@
--- What is proved of decoding and encoding, for every format: bytes come back from their fields, and fields from their
--- bytes.
+-- What is proved of decoding and encoding, for every format: bytes come back from their fields, fields from their
+-- bytes, and extra bytes stay.
 -- Assumes nothing.
 use mathlib.Core.Path.{_≡_}
 use Prim.Native.Nat.{ℕ}
@@ -21,3 +21,6 @@ pub record RoundTrips : Type 0 where
   -- a point that is encoded and decoded is the point again, with the fields that the format lacks at 0
   pub decode-after-encode : (f len : ℕ) (room : Bytes) (q : Point) → InRange q → encoded f len q room .0 ≡ Passes
       → decoded f len (encoded f len q room .1) ≡ Fields (blank f q)
+  -- the bytes of the room behind the format's size stay as they were
+  pub extra-stay : (f len : ℕ) (q : Point) (room : Bytes) → encoded f len q room .0 ≡ Passes
+      → drop (formatSize f) (encoded f len q room .1) ≡ drop (formatSize f) room

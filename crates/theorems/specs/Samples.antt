@@ -14,7 +14,7 @@ use Rattle.fields.specs.Checks.{numberOf}
 use Rattle.points.specs.declared.Decoded.{Decoded}
 use Rattle.points.specs.declared.Decoded.the-variants.{Fields, Refused}
 use Rattle.points.specs.Points.{decoded}
-use Rattle.scaling.specs.Coordinate.{coordinateBits}
+use Rattle.scaling.specs.Scaling.{coordinateBits}
 use Rattle.lasfile.specs.HeaderFields.{signature, version, pointOffset}
 use Rattle.lasfile.specs.FileChecks.{fileVerdict}
 use Rattle.sheet.specs.Sheet.{sheetVerdict}

@@ -1,8 +1,10 @@
--- Terms of the theorems: a file that passes, the released file's length, an accepted release, and its output read as a
--- file.
+-- Terms of the theorems: a file that passes, the released file's length, what a refused release answers, an accepted
+-- release, and its output read as a file.
 -- Assumes nothing.
 use mathlib.Core.Path.{_≡_}
 use Prim.Native.Nat.{ℕ}
+use mathlib.Core.Bool.{cond}
+use lib.Dec.{eqb}
 use lib.ListN.{length, take}
 use Rattle.fields.specs.Bytes.{Bytes, AllBytes}
 use Rattle.fields.specs.declared.Verdict.the-variants.{Passes}
@@ -11,6 +13,7 @@ use Rattle.publicpart.specs.Public.{publicOf}
 use Rattle.publicpart.specs.Render.{render}
 use Rattle.publicpart.specs.declared.Answer.the-variants.{Released}
 use Rattle.publicpart.specs.Release.{release}
+use Rattle.capi.specs.declared.answers.«las_released».{«las_released»}
 
 pub record Good (s : Bytes) : Type 0 where
   -- a file is bytes
@@ -21,6 +24,10 @@ pub record Good (s : Bytes) : Type 0 where
 -- the length of the released file
 abbrev pub needed : Bytes → Bytes → ℕ
 needed sheet file = length (render (publicOf sheet file))
+
+-- what a release answers where it is refused with the number n: 30 has the needed length m beside it
+unfoldable pub refusal : ℕ → ℕ → «las_released»
+refusal n m = record { number = n; length = cond (eqb n 30) m 0; points = 0; records = 0 }
 
 pub record Accepted (sheet f a : Bytes) (n points records : ℕ) : Type 0 where
   -- the source f is bytes

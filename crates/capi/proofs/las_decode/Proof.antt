@@ -7,7 +7,7 @@ use Rattle.capi.proofs.las_decode.Tie as tie
 
 returns : tie.Need-returns
 unfolding lasDecode
-returns c = c .decoded-of .ensures ∙ ap decodedNumbers (c .before .decode .ensures)
+returns c = c .decoded-numbers .ensures ∙ ap decodedNumbers (c .before .decode .ensures)
 
 pub las-decode-spec : {M : Type 1} → statement M
 las-decode-spec = tie.close (tie.spec (λ c κs. tt) (λ c κs. tt) returns)

@@ -7,7 +7,7 @@ use Rattle.capi.proofs.las_geokey_find.Tie as tie
 
 returns : tie.Need-returns
 unfolding lasGeokeyFind
-returns c = c .geokey-of .ensures ∙ ap geokeyNumbers (c .before .find .ensures)
+returns c = c .geokey-numbers .ensures ∙ ap geokeyNumbers (c .before .find .ensures)
 
 pub las-geokey-find-spec : {M : Type 1} → statement M
 las-geokey-find-spec = tie.close (tie.spec (λ c κs. tt) (λ c κs. tt) returns)

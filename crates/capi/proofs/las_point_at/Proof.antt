@@ -7,7 +7,7 @@ use Rattle.capi.proofs.las_point_at.Tie as tie
 
 returns : tie.Need-returns
 unfolding lasPointAt
-returns c = c .point-of .ensures ∙ ap pointNumbers (c .before .point-at .ensures)
+returns c = c .point-numbers .ensures ∙ ap pointNumbers (c .before .point-at .ensures)
 
 pub las-point-at-spec : {M : Type 1} → statement M
 las-point-at-spec = tie.close (tie.spec (λ c κs. tt) (λ c κs. tt) returns)

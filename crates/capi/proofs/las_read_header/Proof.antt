@@ -7,7 +7,7 @@ use Rattle.capi.proofs.las_read_header.Tie as tie
 
 returns : tie.Need-returns
 unfolding lasReadHeader
-returns c = c .header-of .ensures ∙ ap headerNumbers (c .before .read-header .ensures)
+returns c = c .header-numbers .ensures ∙ ap headerNumbers (c .before .read-header .ensures)
 
 pub las-read-header-spec : {M : Type 1} → statement M
 las-read-header-spec = tie.close (tie.spec (λ c κs. tt) (λ c κs. tt) returns)

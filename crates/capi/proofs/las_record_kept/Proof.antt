@@ -7,7 +7,7 @@ use Rattle.capi.proofs.las_record_kept.Tie as tie
 
 returns : tie.Need-returns
 unfolding lasRecordKept
-returns c = c .kept-of .ensures ∙ ap keptNumbers (c .before .record-kept .ensures)
+returns c = c .kept-numbers .ensures ∙ ap keptNumbers (c .before .record-kept .ensures)
 
 pub las-record-kept-spec : {M : Type 1} → statement M
 las-record-kept-spec = tie.close (tie.spec (λ c κs. tt) (λ c κs. tt) returns)

@@ -8,7 +8,7 @@ use Rattle.capi.proofs.las_release.Tie as tie
 
 returns : tie.Need-returns
 unfolding lasRelease
-returns c = in-numbers releasedNumbers (c .released-of .ensures) (c .before .before .before .release .ensures)
+returns c = in-numbers releasedNumbers (c .released-numbers .ensures) (c .before .before .before .release .ensures)
 
 pub las-release-spec : {M : Type 1} → statement M
 las-release-spec = tie.close (tie.spec (λ c κs. tt) (λ c κs. tt) (λ c. search needs) returns)

@@ -7,7 +7,7 @@ use Rattle.capi.proofs.las_vlr_step.Tie as tie
 
 returns : tie.Need-returns
 unfolding lasVlrStep
-returns c = c .record-of .ensures ∙ ap recordNumbers (c .before .step .ensures)
+returns c = c .record-numbers .ensures ∙ ap recordNumbers (c .before .step .ensures)
 
 pub las-vlr-step-spec : {M : Type 1} → statement M
 las-vlr-step-spec = tie.close (tie.spec (λ c κs. tt) (λ c κs. tt) returns)

@@ -40,13 +40,13 @@ find-projection-requires c κs = passed c
 payload-at-requires : tie.Need-payload-at-requires
 payload-at-requires c κs = omega (arith, low-place _ _ (c .before .found .given .1) (c .before .before .before .find-projection .ensures .1))
 
-from-directory-requires : tie.Need-from-directory-requires
-from-directory-requires c κs = passed (c .before .before .before .before .before)
+in-directory-requires : tie.Need-in-directory-requires
+in-directory-requires c κs = passed (c .before .before .before .before .before)
 
 returns-2 : tie.Need-returns-2
 returns-2 c =
     let found = placed _ _ _ (c .before .before .before .before .before .find-projection .ensures .0) (c .before .before .before .found .given .1) in
-    in-directory _ _ (passed (c .before .before .before .before .before .before)) _ _ _ found (c .before .payload-at .ensures) (c .from-directory .ensures)
+    in-directory _ _ (passed (c .before .before .before .before .before .before)) _ _ _ found (c .before .payload-at .ensures) (c .in-directory .ensures)
 
 returns-3 : tie.Need-returns-3
 returns-3 c =
@@ -63,7 +63,7 @@ find-spec =
     find-projection-requires
     (λ c. search needs)
     payload-at-requires
-    from-directory-requires
+    in-directory-requires
     (λ c. search needs)
     returns-2
     returns-3)

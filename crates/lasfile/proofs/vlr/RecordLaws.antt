@@ -11,7 +11,7 @@ use lib.Dec.{lit<}
 use Rattle.fields.specs.Lists.{All, total}
 use Rattle.fields.specs.Bytes.{Bytes, AllBytes, part, num, bytesOf, join, Fit, start}
 use Rattle.fields.specs.Text.{cut, padded}
-use Rattle.lasfile.specs.Records.{Record, recordWidths, frontSize, payloadLength, recordOf, sizeOf, places, walk, walkEnd, recordFields, recordBytes, recordLen, recordsBytes, SoundRecord}
+use Rattle.lasfile.specs.Records.{Record, recordWidths, frontSize, payloadLength, recordOf, sizeOf, places, walk, walkEnd, recordFields, recordBytes, writtenLength, recordsBytes, SoundRecord}
 use Rattle.fields.proofs.ByteLaws.{num-bytesOf, length-bytesOf, num-part-lt, length-part, field-back, length-join, drop-bytes}
 use Rattle.fields.proofs.TextLaws.{held, length-padded}
 
@@ -91,12 +91,12 @@ module _ (lw : ℕ) (s : Bytes) (bytes : AllBytes s) where
   walk-sound (suc n) at h =
       (sound-record at (omega (arith, walk-grows lw n (at + sizeOf lw (drop at s)) s)), walk-sound n (at + sizeOf lw (drop at s)) h)
 
-  pub record-size : (at : ℕ) → at + sizeOf lw (drop at s) ≤ length s → recordLen lw (recordOf lw (drop at s)) ≡ sizeOf lw (drop at s)
-  record-size at h = unfold recordLen sizeOf in ap (λ (n : ℕ). frontSize lw + n) (payload-length at h)
+  pub record-size : (at : ℕ) → at + sizeOf lw (drop at s) ≤ length s → writtenLength lw (recordOf lw (drop at s)) ≡ sizeOf lw (drop at s)
+  record-size at h = unfold writtenLength sizeOf in ap (λ (n : ℕ). frontSize lw + n) (payload-length at h)
 
   -- they fill the room between their place and the walk's end
-  pub walk-total : (n at : ℕ) → walkEnd lw n at s ≤ length s → at + total (recordLen lw) (walk lw n at s) ≡ walkEnd lw n at s
-  unfolding walk places walkEnd total recordLen
+  pub walk-total : (n at : ℕ) → walkEnd lw n at s ≤ length s → at + total (writtenLength lw) (walk lw n at s) ≡ walkEnd lw n at s
+  unfolding walk places walkEnd total writtenLength
   walk-total zero at h = omega arith
   walk-total (suc n) at h =
       omega (arith, record-size at (omega (arith, walk-grows lw n (at + sizeOf lw (drop at s)) s)), walk-total n (at + sizeOf lw (drop at s)) h)
@@ -118,8 +118,8 @@ module _ (lw : ℕ) where
     ),
   )
 
-  pub length-recordBytes : (r : Record) → SoundRecord lw r → length (recordBytes lw r) ≡ recordLen lw r
-  unfolding recordBytes recordLen total
+  pub length-recordBytes : (r : Record) → SoundRecord lw r → length (recordBytes lw r) ≡ writtenLength lw r
+  unfolding recordBytes writtenLength total
   length-recordBytes r h = length-join (recordWidths lw (length (r .payload))) (recordFields lw r) (fit r h) ∙ omega arith
 
   module _ (r : Record) (h : SoundRecord lw r) (rest : Bytes) where
@@ -134,8 +134,8 @@ module _ (lw : ℕ) where
     unfolding payloadLength
     number-back = rw (field 3 (lit< tt)) (num-bytesOf lw (length (r .payload)) (h .payload))
 
-    size-back : sizeOf lw (recordBytes lw r ++ rest) ≡ recordLen lw r
-    unfolding sizeOf recordLen
+    size-back : sizeOf lw (recordBytes lw r ++ rest) ≡ writtenLength lw r
+    unfolding sizeOf writtenLength
     size-back = ap (λ (n : ℕ). frontSize lw + n) number-back
 
     description-back : part (20 + lw) 32 (recordBytes lw r ++ rest) ≡ padded 32 (r .description)
@@ -164,7 +164,7 @@ module _ (lw : ℕ) where
   unfolding recordsBytes join
   first pre r rs rest at e = rw append-assoc (drop-at pre (recordBytes lw r ++ (recordsBytes lw rs ++ rest)) at e)
 
-  next : (pre : Bytes) (r : Record) (at : ℕ) → SoundRecord lw r → length pre ≡ at → length (pre ++ recordBytes lw r) ≡ at + recordLen lw r
+  next : (pre : Bytes) (r : Record) (at : ℕ) → SoundRecord lw r → length pre ≡ at → length (pre ++ recordBytes lw r) ≡ at + writtenLength lw r
   next pre r at h e = omega (arith, length-append pre (recordBytes lw r), length-recordBytes r h)
 
   -- a walk over records that were written at a place finds them, whatever stands before and behind them
@@ -174,14 +174,14 @@ module _ (lw : ℕ) where
   walk-back (r ∷ rs) h at pre rest e =
       let s : Bytes = pre ++ (recordsBytes lw (r ∷ rs) ++ rest) in
       let here : recordOf lw (drop at s) ≡ r = rw (first pre r rs rest at e) (record-back r (h .0) (recordsBytes lw rs ++ rest)) in
-      let after : at + sizeOf lw (drop at s) ≡ at + recordLen lw r = rw (first pre r rs rest at e, size-back r (h .0) (recordsBytes lw rs ++ rest)) in
-      let later : walk lw (length rs) (at + recordLen lw r) s ≡ rs =
-      rw (regroup pre r rs rest) (walk-back rs (h .1) (at + recordLen lw r) (pre ++ recordBytes lw r) rest (next pre r at (h .0) e)) in
+      let after : at + sizeOf lw (drop at s) ≡ at + writtenLength lw r = rw (first pre r rs rest at e, size-back r (h .0) (recordsBytes lw rs ++ rest)) in
+      let later : walk lw (length rs) (at + writtenLength lw r) s ≡ rs =
+      rw (regroup pre r rs rest) (walk-back rs (h .1) (at + writtenLength lw r) (pre ++ recordBytes lw r) rest (next pre r at (h .0) e)) in
       walk-step lw (length rs) at s ∙ rw (here, after, later)
 
   -- and it ends where they do
   pub walkEnd-back : (rs : List Record) → All (SoundRecord lw) rs → (at : ℕ) (pre rest : Bytes) → length pre ≡ at
-      → walkEnd lw (length rs) at (pre ++ (recordsBytes lw rs ++ rest)) ≡ at + total (recordLen lw) rs
+      → walkEnd lw (length rs) at (pre ++ (recordsBytes lw rs ++ rest)) ≡ at + total (writtenLength lw) rs
   unfolding total
   walkEnd-back [] h at pre rest e = omega (arith, walkEnd-none lw at (pre ++ (recordsBytes lw [] ++ rest)))
   walkEnd-back (r ∷ rs) h at pre rest e =
@@ -190,10 +190,10 @@ module _ (lw : ℕ) where
         first pre r rs rest at e,
         size-back r (h .0),
         regroup pre r rs rest,
-        walkEnd-back rs (h .1) (at + recordLen lw r) (pre ++ recordBytes lw r) rest (next pre r at (h .0) e),
+        walkEnd-back rs (h .1) (at + writtenLength lw r) (pre ++ recordBytes lw r) rest (next pre r at (h .0) e),
       ) (omega arith)
 
-  pub length-recordsBytes : (rs : List Record) → All (SoundRecord lw) rs → length (recordsBytes lw rs) ≡ total (recordLen lw) rs
+  pub length-recordsBytes : (rs : List Record) → All (SoundRecord lw) rs → length (recordsBytes lw rs) ≡ total (writtenLength lw) rs
   unfolding recordsBytes join total
   length-recordsBytes [] h = refl
   length-recordsBytes (r ∷ rs) h =

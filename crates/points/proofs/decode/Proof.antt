@@ -5,7 +5,7 @@ use Rattle.points.specs.declared.layouts.Layout.{Layout}
 use Rattle.points.specs.declared.formats.Place.{Place}
 use Rattle.points.specs.Formats.{layoutOf}
 use Rattle.points.specs.declared.Decoded.the-variants.{Fields}
-use Rattle.points.specs.Points.{numberAt}
+use Rattle.points.specs.Points.{numberIn}
 use Rattle.points.proofs.AnswerLaws.{refused, accepted-by, with-others}
 use Rattle.points.proofs.decode.Statement.{statement}
 use Rattle.points.proofs.decode.Tie as tie
@@ -26,10 +26,10 @@ returns-2 c =
     let colour = ap (λ (l : Layout). l .colour) (p .before .layout-of .ensures) in
     ap Fields
     (with-others f s (p .shared-of .result) _ _ _ _ (p .shared-of .ensures)
-    (c .before .before .before .number-in .ensures .0 ∙ ap (λ (k : Place). numberAt 8 k 0 s) time)
-    (c .before .before .u16-in .ensures ∙ ap (λ (k : Place). numberAt 2 k 0 s) colour)
-    (c .before .u16-in2 .ensures ∙ ap (λ (k : Place). numberAt 2 k 2 s) colour)
-    (c .u16-in3 .ensures ∙ ap (λ (k : Place). numberAt 2 k 4 s) colour))
+    (c .before .before .before .number-in .ensures .0 ∙ ap (λ (k : Place). numberIn 8 k 0 s) time)
+    (c .before .before .u16-in .ensures ∙ ap (λ (k : Place). numberIn 2 k 0 s) colour)
+    (c .before .u16-in2 .ensures ∙ ap (λ (k : Place). numberIn 2 k 2 s) colour)
+    (c .u16-in3 .ensures ∙ ap (λ (k : Place). numberIn 2 k 4 s) colour))
     ∙ sym (accepted-by f (a .record-length) s _ (p .before .before .before .has-shape .ensures) (p .before .before .if1 .left))
 
 pub decode-spec : {M : Type 1} → statement M

@@ -16,8 +16,7 @@ use Rattle.points.specs.declared.formats.Place.the-variants.{At, Absent}
 use Rattle.points.specs.Formats.{formatSize, timePlace, colourPlace}
 use Rattle.points.proofs.formats.FormatLaws.{Follows, widthIf, layered}
 use Rattle.points.specs.declared.Point.{Point}
-use Rattle.points.specs.Shared.{sharedFields}
-use Rattle.points.specs.Encoding.{ifPlaced, storedAt, timeFields, colours, colourFields, pointFields, pointBytes}
+use Rattle.points.specs.Encoding.{sharedFields, ifPlaced, storedAt, timeFields, colours, colourFields, pointFields, pointBytes}
 
 -- ---- the widths of the fields
 

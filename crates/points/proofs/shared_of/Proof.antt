@@ -10,13 +10,14 @@ use Rattle.points.specs.declared.raw.Stored.{Stored}
 use Rattle.points.specs.Formats.{timePlace, colourPlace}
 use Rattle.points.specs.Raw.{bits, storedOf}
 use Rattle.points.specs.Points.{pointOf}
+use Rattle.points.specs.Encoding.{blank}
 use Rattle.points.proofs.formats.FormatLaws.{plain}
-use Rattle.points.proofs.FieldLaws.{number-none}
+use Rattle.points.proofs.FieldLaws.{value-none}
 use Rattle.points.proofs.shared_of.Statement.{statement}
 use Rattle.points.proofs.shared_of.Tie as tie
 
 returns : tie.Need-returns
-unfolding pointOf bits storedOf
+unfolding pointOf blank bits storedOf
 returns c =
     let told = c .struct-told .given in
     let source = c .before .u16-at2 .ensures in
@@ -27,7 +28,9 @@ returns c =
     let p = a .before .before .before in
     let flags = p .before .u8-at .ensures in
     let stored = p .before .before .stored-of .ensures in
-    let s = p .before .before .before .before .args .s .now in
+    let args = p .before .before .before .before .args in
+    let s = args .s .now in
+    let whole = pointOf (args .format) s in
     let byte : a .i8-at .result ≡ toZ w8 (getD s 16 0) = a .i8-at .ensures in
     let angle = toZ-ofZ w8 (a .i8-at .result) (record { sfits = a .i8-at .ok }) ∙ byte in
     -- a stored value comes back from its bits
@@ -47,10 +50,10 @@ returns c =
       «scan_angle» = angle i;
       «user_data» = user i;
       «source_id» = source i;
-      «gps_time» = number-none 8 (timePlace 0) 0 s (plain .0) .0 i;
-      red = number-none 2 (colourPlace 0) 0 s (plain .1) .0 i;
-      green = number-none 2 (colourPlace 0) 2 s (plain .1) .0 i;
-      blue = number-none 2 (colourPlace 0) 4 s (plain .1) .0 i;
+      «gps_time» = value-none (timePlace 0) (whole .«gps_time») (plain .0) i;
+      red = value-none (colourPlace 0) (whole .red) (plain .1) i;
+      green = value-none (colourPlace 0) (whole .green) (plain .1) i;
+      blue = value-none (colourPlace 0) (whole .blue) (plain .1) i;
     }
 
 pub shared-of-spec : {M : Type 1} → statement M

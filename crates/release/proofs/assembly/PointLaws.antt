@@ -11,7 +11,8 @@ use lib.Seq.{take-all}
 use Rattle.fields.specs.Bytes.{Bytes, join, zeros}
 use Rattle.fields.proofs.StoreLaws.{tail-part}
 use Rattle.lasfile.specs.HeaderFields.{pointOffset, format, recordLength, pointCount}
-use Rattle.release.specs.Assembly.{keptPoints, pointsBytes, withPoints}
+use Rattle.release.specs.Assembly.{pointsBytes, withPoints}
+use Rattle.release.specs.KeptPoints.{keptPoints}
 
 module _ (table : List Bool) (s : Bytes) (start : ℕ) (out : Bytes) where
   pub with-points : withPoints table s start out

@@ -8,6 +8,7 @@ use borrow.Author.Tests.{le-leb, lt-leb}
 use mathlib.Core.List.{[]}
 use lib.ListN.{length}
 use lib.Seq.{sets}
+use Rattle.fields.specs.Lists.{listIf}
 use Rattle.fields.specs.Bytes.{Bytes, part, join, numbersBytes}
 use Rattle.fields.proofs.ByteLaws.{length-part}
 use Rattle.fields.proofs.TextLaws.{held}
@@ -18,18 +19,18 @@ use Rattle.publicpart.proofs.PublicLaws.{carried-ids, carried-system, carried-s
 use Rattle.publicpart.proofs.HeadLaws.{Fitting, head-fits}
 use Rattle.tally.specs.Tally.{binNumbers}
 use Rattle.release.specs.declared.head.HeadTotals.{HeadTotals}
-use Rattle.release.specs.Heads.{headWith, bytesIf, headBytes, fieldsStored}
+use Rattle.release.specs.Heads.{headWith, headBytes, fieldsStored}
 use Rattle.release.proofs.head.FieldStores.{stores-join}
 
 pub no-head : (s : Bytes) (t : HeadTotals) → length s < headerBlock → headBytes s t ≡ []
-unfolding headBytes bytesIf
+unfolding headBytes listIf
 no-head s t h = rw (lt-leb headerBlock (length s) h)
 
 -- ---- a source that is long enough
 
 module _ (s : Bytes) (t : HeadTotals) (long : headerBlock ≤ length s) where
   pub whole-head : headBytes s t ≡ join (headFields (headWith s t))
-  unfolding headBytes bytesIf
+  unfolding headBytes listIf
   whole-head = rw (le-leb headerBlock (length s) long)
 
   fitting : Fitting (headWith s t)

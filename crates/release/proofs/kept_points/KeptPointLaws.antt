@@ -8,11 +8,11 @@ use lib.ListN.{length}
 use Rattle.fields.specs.Lists.{kept}
 use Rattle.fields.specs.Bytes.{Bytes, pieces}
 use Rattle.points.specs.Raw.{inRun}
-use Rattle.points.proofs.raw.RunLaws.{Held, points-held, points-none}
+use Rattle.points.proofs.raw.RunLaws.{InRun, points-held, points-none}
 use Rattle.sheet.specs.Keeping.{inTable}
-use Rattle.release.specs.Assembly.{keptPoints}
+use Rattle.release.specs.KeptPoints.{keptPoints}
 
-pub kept-held : (table : List Bool) (f count len : ℕ) (run : Bytes) → Held count len (length run)
+pub kept-held : (table : List Bool) (f count len : ℕ) (run : Bytes) → InRun count len (length run)
     → keptPoints table f count len run ≡ kept (inTable table f) (pieces count len run)
 unfolding keptPoints
 kept-held table f count len run h = rw (points-held count len run h)

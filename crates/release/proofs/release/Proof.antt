@@ -12,7 +12,8 @@ use Rattle.lasfile.specs.HeaderFields.{headerBlock, pointOffset, format, record
 use Rattle.lasfile.specs.FileChecks.{fileVerdict}
 use Rattle.lasfile.proofs.Passed.{passed}
 use Rattle.sheet.specs.Sheet.{sheetVerdict}
-use Rattle.release.specs.Assembly.{keptPoints, written}
+use Rattle.release.specs.Assembly.{written}
+use Rattle.release.specs.KeptPoints.{keptPoints}
 use Rattle.publicpart.specs.Public.{publicOf}
 use Rattle.publicpart.specs.Render.{render}
 use Rattle.publicpart.specs.Release.{Outcome}

@@ -12,7 +12,7 @@ use Rattle.fields.specs.Bytes.{Bytes, AllBytes, part, join}
 use Rattle.fields.proofs.ByteLaws.{drop-bytes}
 use Rattle.fields.proofs.ListLaws.{kept-here, kept-past}
 use Rattle.fields.proofs.StoreLaws.{sets-append}
-use Rattle.lasfile.specs.Records.{Record, recordAt, sizeOf, places, walk, recordBytes, recordLen, recordsBytes}
+use Rattle.lasfile.specs.Records.{Record, recordAt, sizeOf, places, walk, recordBytes, writtenLength, recordsBytes}
 use Rattle.lasfile.proofs.vlr.RecordLaws.{walk-step, length-recordBytes}
 use Rattle.lasfile.specs.HeaderFields.{headerBlock, headerSize, recordCount}
 use Rattle.publicpart.specs.Public.{keptRecord, publicOf}
@@ -61,7 +61,7 @@ module _ (sheet s : Bytes) where
 
 pub record Measuring (sheet s : Bytes) (left at count size : ℕ) : Type 0 where
   pub counted : count + length (rest sheet s left at) ≡ length (publicOf sheet s .records)
-  pub summed : size + total (recordLen 2) (rest sheet s left at) ≡ total (recordLen 2) (publicOf sheet s .records)
+  pub summed : size + total (writtenLength 2) (rest sheet s left at) ≡ total (writtenLength 2) (publicOf sheet s .records)
   pub few : count + left < 2 ^ 33
   pub place : Low at left
   pub low : Low size left
@@ -71,7 +71,7 @@ measuring-begins sheet s left at l a =
     let all = rest-first sheet s left at (l .0) (a .0) in
     record {
       counted = omega (arith, ap length all);
-      summed = omega (arith, ap (total (recordLen 2)) all);
+      summed = omega (arith, ap (total (writtenLength 2)) all);
       few = omega arith;
       place = omega arith;
       low = omega arith;
@@ -79,14 +79,14 @@ measuring-begins sheet s left at l a =
 
 module _ (sheet s : Bytes) (bytes : AllBytes s) (left at count size : ℕ) (more : 0 < left) (small : sizeOf 2 (drop at s) < 2 ^ 17) (m : Measuring sheet s left at count size) where
   pub measuring-kept : keptRecord sheet (recordAt 2 s at) ≡ true
-      → Measuring sheet s (left - 1) (at + sizeOf 2 (drop at s)) (count + 1) (size + recordLen 2 (recordAt 2 s at))
+      → Measuring sheet s (left - 1) (at + sizeOf 2 (drop at s)) (count + 1) (size + writtenLength 2 (recordAt 2 s at))
   unfolding total
   measuring-kept e =
       let two = rest-kept sheet s left at more e in
       let short = length-low (drop at s) (drop-bytes at s bytes) in
       record {
         counted = omega (arith, m .counted, ap length two);
-        summed = omega (arith, m .summed, ap (total (recordLen 2)) two);
+        summed = omega (arith, m .summed, ap (total (writtenLength 2)) two);
         few = omega (arith, m .few);
         place = omega (arith, m .place);
         low = omega (arith, m .low, short);
@@ -97,7 +97,7 @@ module _ (sheet s : Bytes) (bytes : AllBytes s) (left at count size : ℕ) (more
       let later = rest-past sheet s left at more e in
       record {
         counted = omega (arith, m .counted, ap length later);
-        summed = omega (arith, m .summed, ap (total (recordLen 2)) later);
+        summed = omega (arith, m .summed, ap (total (writtenLength 2)) later);
         few = omega (arith, m .few);
         place = omega (arith, m .place);
         low = omega (arith, m .low);
@@ -109,7 +109,7 @@ unfolding measured total
 measuring-ends sheet s left at count size h m =
     let none = rest-none sheet s left at h in
     let counted : count ≡ length (publicOf sheet s .records) = omega (arith, m .counted, ap length none) in
-    let summed : size ≡ total (recordLen 2) (publicOf sheet s .records) = omega (arith, m .summed, ap (total (recordLen 2)) none) in
+    let summed : size ≡ total (writtenLength 2) (publicOf sheet s .records) = omega (arith, m .summed, ap (total (writtenLength 2)) none) in
     λ i. record { count = counted i; length = summed i }
 
 -- ---- copying
@@ -133,13 +133,13 @@ copying-begins sheet s out left at l a =
 module _ (sheet s out₀ out : Bytes) (bytes : AllBytes s) (left at to : ℕ) (more : 0 < left) (small : sizeOf 2 (drop at s) < 2 ^ 17) (c : Copying sheet s out₀ out left at to) where
   pub copying-kept : (next : Bytes) → next ≡ sets out to (recordBytes 2 (recordAt 2 s at)) → length next ≡ length out
       → keptRecord sheet (recordAt 2 s at) ≡ true
-      → Copying sheet s out₀ next (left - 1) (at + sizeOf 2 (drop at s)) (to + recordLen 2 (recordAt 2 s at))
+      → Copying sheet s out₀ next (left - 1) (at + sizeOf 2 (drop at s)) (to + writtenLength 2 (recordAt 2 s at))
   unfolding recordsBytes join
   copying-kept next e l k =
       let r : Record = recordAt 2 s at in
       let later : List Record = rest sheet s (left - 1) (at + sizeOf 2 (drop at s)) in
-      let long : length (recordBytes 2 r) ≡ recordLen 2 r = length-recordBytes 2 r (sound (drop at s) (drop-bytes at s bytes)) in
-      let step : sets out to (recordBytes 2 r ++ recordsBytes 2 later) ≡ sets next (to + recordLen 2 r) (recordsBytes 2 later) =
+      let long : length (recordBytes 2 r) ≡ writtenLength 2 r = length-recordBytes 2 r (sound (drop at s) (drop-bytes at s bytes)) in
+      let step : sets out to (recordBytes 2 r ++ recordsBytes 2 later) ≡ sets next (to + writtenLength 2 r) (recordsBytes 2 later) =
       sets-append out to (recordBytes 2 r) (recordsBytes 2 later) ∙ rw (long, ← e) in
       let short = length-low (drop at s) (drop-bytes at s bytes) in
       record {

@@ -12,7 +12,7 @@ use Rattle.fields.specs.Text.{padded}
 use Rattle.fields.proofs.ByteLaws.{num-part-lt, length-part-le, length-bytesOf}
 use Rattle.fields.proofs.TextLaws.{held, length-padded}
 use Rattle.fields.proofs.StoreLaws.{store-behind}
-use Rattle.lasfile.specs.Records.{Record, recordOf, recordBytes, recordLen, SoundRecord}
+use Rattle.lasfile.specs.Records.{Record, recordOf, recordBytes, writtenLength, SoundRecord}
 use Rattle.lasfile.proofs.vlr.FieldLaws.{user-of, id-of, description-of, payload-of, length-of}
 use Rattle.release.specs.KeptRecords.{nameBytes, contentBytes}
 
@@ -30,8 +30,8 @@ module _ (v : Bytes) (bytes : AllBytes v) where
         payload = payload-low;
       }
 
-  pub length-low : recordLen 2 (recordOf 2 v) < 2 ^ 17
-  unfolding recordLen
+  pub length-low : writtenLength 2 (recordOf 2 v) < 2 ^ 17
+  unfolding writtenLength
   length-low = omega (arith, payload-low)
 
 -- ---- the two parts, each of three fields stored one behind the other

@@ -1,16 +1,16 @@
--- Laws of stored values and of their extremes. Assumes nothing.
+-- Laws of the larger and the smaller of two stored values. Assumes nothing.
 use mathlib.Core.Path.{_≡_, refl, ap, _∙_}
-use Prim.Native.Nat.{ℕ, suc, _-_, _≤_}
+use Prim.Native.Nat.{ℕ, _≤_}
 use native.Mathlib.Omega.{arith}
 use mathlib.Core.Bool.{Bool, true, false, cond}
 use lib.Dec.{ltb}
 use lib.IntN.{ℤ, pos, negsuc}
 use lib.Signed.{ltZ}
 use mir.Syntax.{w32}
-use mir.Val.{SFits, toZ, ofZ, sel}
+use mir.Val.{SFits, toZ, ofZ}
 use mir.ValLaws.{toZ-ofZ}
-use borrow.Author.Tests.{ltb-true, ltb-false}
-use Rattle.tally.specs.Extremes.{largerOf, smallerOf}
+use borrow.Author.Tests.{ltb-false}
+use Rattle.publicpart.specs.Bounds.{largerOf, smallerOf}
 
 -- a test of two signed numbers, as the machine makes it of their bits
 pub signed-test : {a b : ℤ} {t : Bool} → SFits w32 a → SFits w32 b → ltZ (toZ w32 (ofZ w32 a)) (toZ w32 (ofZ w32 b)) ≡ t → ltZ a b ≡ t
@@ -21,25 +21,15 @@ pub by-bits : (f : ℤ → ℤ → ℤ) (a b r : ℤ) → SFits w32 a → SFits 
     → toZ w32 (ofZ w32 r) ≡ f a b
 by-bits f a b r fa fb fr e = toZ-ofZ w32 r fr ∙ e ∙ rw (toZ-ofZ w32 a fa, toZ-ofZ w32 b fb)
 
-fits-by : (n : ℕ) (b : Bool) → ltb n 2147483648 ≡ b → SFits w32 (sel b (pos n) (negsuc (4294967296 - suc n)))
-fits-by n true e = record { sfits = ltb-true n 2147483648 e }
-fits-by n false e = record { sfits = omega (arith, ltb-false n 2147483648 e) }
-
--- a stored value is in the range of 32 bits, whatever the bytes are
-pub stored-fits : (n : ℕ) → SFits w32 (toZ w32 n)
-stored-fits n = fits-by n (ltb n 2147483648) refl
-
 nearer : (side : ℕ → ℤ) (n m : ℕ) (b : Bool) → ltb n m ≡ b → n ≤ m → cond b (side n) (side m) ≡ side n
 nearer side n m true e h = refl
 nearer side n m false e h = ap side (omega (arith, ltb-false n m e))
 
--- so the first one takes the place of both ends
+-- a value of 32 bits takes the place of both ends
 pub max-first : (v : ℤ) → SFits w32 v → largerOf (negsuc 2147483647) v ≡ v
-unfolding largerOf
 max-first (pos n) f = refl
 max-first (negsuc n) f = nearer negsuc n 2147483647 (ltb n 2147483647) refl (omega (arith, f .sfits))
 
 pub min-first : (v : ℤ) → SFits w32 v → smallerOf (pos 2147483647) v ≡ v
-unfolding smallerOf
 min-first (pos n) f = nearer pos n 2147483647 (ltb n 2147483647) refl (omega (arith, f .sfits))
 min-first (negsuc n) f = refl

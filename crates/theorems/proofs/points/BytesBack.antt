@@ -8,7 +8,7 @@ use lib.ListN.{length, take, drop, getD}
 use lib.Seq.{take-add, drop-drop}
 use lib.Dec.{eqb}
 use mir.Syntax.{Width, w8, w32}
-use mir.Val.{toZ, ofZ, bits as widthBits}
+use mir.Val.{toZ, ofZ, boolByte, bits as widthBits}
 use mir.ValLaws.{ofZ-toZ}
 use Rattle.fields.specs.Lists.{total}
 use Rattle.fields.specs.Bytes.{Bytes, AllBytes, part, num, bytesOf, join}
@@ -17,10 +17,9 @@ use Rattle.points.specs.declared.formats.Place.{Place}
 use Rattle.points.specs.declared.formats.Place.the-variants.{At, Absent}
 use Rattle.points.specs.Formats.{formatSize, timePlace, colourPlace}
 use Rattle.points.proofs.formats.FormatLaws.{Follows, widthIf, layered}
-use Rattle.points.specs.Points.{numberAt, pointOf, bit}
+use Rattle.points.specs.Points.{numberIn, pointOf}
 use Rattle.points.specs.Raw.{bits, returnOf, classOf, stored}
-use Rattle.points.specs.Shared.{flagByte, sharedFields}
-use Rattle.points.specs.Encoding.{ifPlaced, timeFields, colours, colourFields, pointBytes}
+use Rattle.points.specs.Encoding.{flagByte, sharedFields, ifPlaced, timeFields, colours, colourFields, pointBytes}
 use Rattle.points.proofs.encoding.LayoutLaws.{sharedWidths, bytes-groups}
 
 -- ---- one field
@@ -43,14 +42,13 @@ module _ (s : Bytes) (all : AllBytes s) where
       ap (bytesOf n) (ofZ-toZ w (num (part at n s)) (record { fits = rw e at (num-part-lt at n s all) })) ∙ number-back at n h
 
   placed-back : (at w shift : ℕ) → at + shift + w ≤ length s
-      → bytesOf w (numberAt w (At at) shift s) ≡ part (at + shift) w s
-  unfolding numberAt
+      → bytesOf w (numberIn w (At at) shift s) ≡ part (at + shift) w s
+  unfolding numberIn
   placed-back at w shift h = number-back (at + shift) w h
 
 -- ---- the byte at 14
 
-bit-back : (n : ℕ) → n ≤ 1 → bit (eqb n 1) ≡ n
-unfolding bit
+bit-back : (n : ℕ) → n ≤ 1 → boolByte (eqb n 1) ≡ n
 bit-back zero h = refl
 bit-back (suc zero) h = refl
 bit-back (suc (suc n)) h = absurd (omega arith)
@@ -81,7 +79,7 @@ join-parts at (w ∷ ws) s = rw (join-parts (at + w) ws s) (parts-two at w (tota
 -- the fields of these widths at a place, one behind another
 abbrev numbersAt : ℕ → List ℕ → Place → Bytes → List Bytes
 numbersAt shift [] place s = []
-numbersAt shift (w ∷ ws) place s = bytesOf w (numberAt w place shift s) ∷ numbersAt (shift + w) ws place s
+numbersAt shift (w ∷ ws) place s = bytesOf w (numberIn w place shift s) ∷ numbersAt (shift + w) ws place s
 
 module _ (s : Bytes) (all : AllBytes s) where
   numbers-parts : (at shift : ℕ) (ws : List ℕ) → at + shift + total (λ n. n) ws ≤ length s

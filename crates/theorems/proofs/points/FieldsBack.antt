@@ -9,7 +9,7 @@ use lib.IntN.{ℤ}
 use lib.ListN.{length, getD, length-append}
 use lib.Dec.{eqb}
 use mir.Syntax.{Width, w8, w32}
-use mir.Val.{SFits, toZ, ofZ}
+use mir.Val.{SFits, toZ, ofZ, boolByte}
 use mir.ValLaws.{ofZ-fits, toZ-ofZ}
 use Rattle.fields.specs.Bytes.{Bytes, part, num, bytesOf, join, start, Fit}
 use Rattle.fields.proofs.ByteLaws.{num-bytesOf, length-bytesOf, num-part-one, part-behind, field-back}
@@ -18,10 +18,9 @@ use Rattle.points.specs.declared.formats.Place.the-variants.{At, Absent}
 use Rattle.points.specs.Formats.{timePlace, colourPlace}
 use Rattle.points.proofs.formats.FormatLaws.{Follows, widthIf, layered}
 use Rattle.points.specs.declared.Point.{Point}
-use Rattle.points.specs.Points.{numberAt, pointOf, bit}
+use Rattle.points.specs.Points.{numberIn, pointOf}
 use Rattle.points.specs.Raw.{bits, stored, returnOf, classOf}
-use Rattle.points.specs.Shared.{flagByte, sharedFields}
-use Rattle.points.specs.Encoding.{ifPlaced, timeFields, colours, colourFields, valueIf, blank, InRange}
+use Rattle.points.specs.Encoding.{flagByte, sharedFields, ifPlaced, timeFields, colours, colourFields, valueIf, blank, InRange}
 use Rattle.points.proofs.encoding.LayoutLaws.{sharedWidths, shared-fit, length-shared, length-time}
 
 -- a number among fields that were written one behind another
@@ -34,21 +33,19 @@ among ws fs rest i n fit h e small = ap num (field-back ws fs rest i fit h ∙ e
 placed-among : (place : Place) (k : ℕ) (x : Bytes) (ws : List ℕ) (fs : List Bytes) (rest : Bytes) (i n : ℕ)
     → Follows place k → length x ≡ k → Fit ws fs
     → i < length ws → getD fs i [] ≡ bytesOf (getD ws i 0) n → n < 256 ^ getD ws i 0
-    → numberAt (getD ws i 0) place (start i ws) (x ++ (join (ifPlaced place fs) ++ rest)) ≡ valueIf place n
-unfolding numberAt valueIf ifPlaced
+    → numberIn (getD ws i 0) place (start i ws) (x ++ (join (ifPlaced place fs) ++ rest)) ≡ valueIf place n
+unfolding numberIn valueIf ifPlaced
 placed-among Absent k x ws fs rest i n follows wide fit h e small = refl
 placed-among (At at) k x ws fs rest i n follows wide fit h e small =
     rw (follows, part-behind k (start i ws) (getD ws i 0) x (join fs ++ rest) wide) (among ws fs rest i n fit h e small)
 
 -- ---- the byte at 14
 
-one-bit : (b : Bool) → bit b ≤ 1
-unfolding bit
+one-bit : (b : Bool) → boolByte b ≤ 1
 one-bit true = omega arith
 one-bit false = omega arith
 
-flag-back : (b : Bool) (n : ℕ) → n ≡ bit b → eqb n 1 ≡ b
-unfolding bit
+flag-back : (b : Bool) (n : ℕ) → n ≡ boolByte b → eqb n 1 ≡ b
 flag-back true n e = rw e
 flag-back false n e = rw e
 
@@ -65,11 +62,11 @@ module _ (q : Point) (number : q .«return_number» ≤ 7) (returns : q .returns
   unfolding flagByte bits
   returns-bits = omega (arith, one-bit (q .«scan_direction»), one-bit (q .edge))
 
-  direction-bit : bits 6 1 (flagByte q) ≡ bit (q .«scan_direction»)
+  direction-bit : bits 6 1 (flagByte q) ≡ boolByte (q .«scan_direction»)
   unfolding flagByte bits
   direction-bit = omega (arith, one-bit (q .«scan_direction»), one-bit (q .edge))
 
-  edge-bit : bits 7 1 (flagByte q) ≡ bit (q .edge)
+  edge-bit : bits 7 1 (flagByte q) ≡ boolByte (q .edge)
   unfolding flagByte bits
   edge-bit = omega (arith, one-bit (q .«scan_direction»), one-bit (q .edge))
 
@@ -112,16 +109,16 @@ fields-back f q rest r small few =
     ∙ toZ-ofZ w8 (q .«scan_angle») (r .scan-angle) in
     let user : getD s 17 0 ≡ q .«user_data» = sym (num-part-one 17 s) ∙ number q tail 7 (q .«user_data») (omega arith) refl (r .user-data) in
     let source : num (part 18 2 s) ≡ q .«source_id» = number q tail 8 (q .«source_id») (omega arith) refl (r .source-id) in
-    let gps : numberAt 8 t 0 s ≡ valueIf t (q .«gps_time») =
+    let gps : numberIn 8 t 0 s ≡ valueIf t (q .«gps_time») =
     placed-among t 20 shared (8 ∷ []) _ (colour ++ rest) 0 (q .«gps_time») (layered f .time) (length-shared q) (length-bytesOf 8 _, tt) (omega arith) refl (r .gps-time) in
     let front : s ≡ (shared ++ time) ++ (colour ++ rest) = sym (append-assoc shared time (colour ++ rest)) in
     let wide : length (shared ++ time) ≡ 20 + widthIf t 8 = length-append shared time ∙ rw (length-shared q, length-time t q) in
     let fit : Fit (2 ∷ 2 ∷ 2 ∷ []) (bytesOf 2 (q .red) ∷ bytesOf 2 (q .green) ∷ bytesOf 2 (q .blue) ∷ []) = (length-bytesOf 2 _, (length-bytesOf 2 _, (length-bytesOf 2 _, tt))) in
-    let red : numberAt 2 k 0 s ≡ valueIf k (q .red) =
+    let red : numberIn 2 k 0 s ≡ valueIf k (q .red) =
     rw front (placed-among k (20 + widthIf t 8) (shared ++ time) (2 ∷ 2 ∷ 2 ∷ []) _ rest 0 (q .red) (layered f .colour) wide fit (omega arith) refl (r .red)) in
-    let green : numberAt 2 k 2 s ≡ valueIf k (q .green) =
+    let green : numberIn 2 k 2 s ≡ valueIf k (q .green) =
     rw front (placed-among k (20 + widthIf t 8) (shared ++ time) (2 ∷ 2 ∷ 2 ∷ []) _ rest 1 (q .green) (layered f .colour) wide fit (omega arith) refl (r .green)) in
-    let blue : numberAt 2 k 4 s ≡ valueIf k (q .blue) =
+    let blue : numberIn 2 k 4 s ≡ valueIf k (q .blue) =
     rw front (placed-among k (20 + widthIf t 8) (shared ++ time) (2 ∷ 2 ∷ 2 ∷ []) _ rest 2 (q .blue) (layered f .colour) wide fit (omega arith) refl (r .blue)) in
     λ i.
     record {
@@ -131,8 +128,8 @@ fields-back f q rest r small few =
       intensity = intensity i;
       «return_number» = (ap (bits 0 3) flags ∙ number-bits q small few) i;
       returns = (ap (bits 3 3) flags ∙ returns-bits q small few) i;
-      «scan_direction» = (ap (λ (b : ℕ). eqb (bits 6 1 b) 1) flags ∙ flag-back _ _ (direction-bit q small few)) i;
-      edge = (ap (λ (b : ℕ). eqb (bits 7 1 b) 1) flags ∙ flag-back _ _ (edge-bit q small few)) i;
+      «scan_direction» = (ap (λ (b : ℕ). eqb (bits 6 1 b) 1) flags ∙ flag-back (q .«scan_direction») _ (direction-bit q small few)) i;
+      edge = (ap (λ (b : ℕ). eqb (bits 7 1 b) 1) flags ∙ flag-back (q .edge) _ (edge-bit q small few)) i;
       «class_byte» = class i;
       «scan_angle» = angle i;
       «user_data» = user i;

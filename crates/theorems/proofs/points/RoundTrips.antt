@@ -1,4 +1,4 @@
--- Bytes come back from their fields, and fields from their bytes, in every format.
+-- Bytes come back from their fields, fields from their bytes, and extra bytes stay, in every format.
 -- Assumes nothing.
 use mathlib.Core.Path.{_≡_, refl, ap, _∙_}
 use Prim.Native.Nat.{ℕ, _+_, _≤_}
@@ -6,7 +6,7 @@ use native.Mathlib.Nat.{zero-add}
 use native.Mathlib.Omega.{arith}
 use mathlib.Core.List.{_++_, append-assoc}
 use lib.ListN.{length, take, drop, take-append-drop}
-use lib.Seq.{sets, sets-eq, length-sets, length-take-le}
+use lib.Seq.{sets, sets-eq, length-sets, length-take-le, drop-at}
 use lib.Dec.{T, eqb, eqb→eq}
 use Rattle.fields.specs.Bytes.{Bytes, AllBytes, join}
 use Rattle.fields.specs.Checks.{fails, firstFailing, Clear}
@@ -18,8 +18,7 @@ use Rattle.points.specs.declared.Point.{Point}
 use Rattle.points.specs.declared.Decoded.the-variants.{Fields}
 use Rattle.points.specs.Points.{pointOf, shape, decodeChecks, fieldsIf, decoded}
 use Rattle.points.specs.Raw.{bits, returnOf}
-use Rattle.points.specs.Shared.{sharedFields}
-use Rattle.points.specs.Encoding.{timeFields, colourFields, pointBytes, large, encodeChecks, storedIf, encoded, blank, InRange}
+use Rattle.points.specs.Encoding.{sharedFields, timeFields, colourFields, pointBytes, large, encodeChecks, storedIf, encoded, blank, InRange}
 use Rattle.theorems.specs.RoundTrips.{RoundTrips}
 use Rattle.points.proofs.AnswerLaws.{accepted}
 use Rattle.points.proofs.encoding.AnswerLaws.{stored}
@@ -114,5 +113,25 @@ decode-after-encode f len room q r e =
     rw (stored f len q room (unclear (shape f len (length room)) (g .0)) (unclear (large q) (g .1)))
     (accepted f len after (unclear (shape f len (length after)) c) ∙ ap Fields (own-fields f q room r (g .1) (k .format) (omega arith)))
 
+-- ---- extra bytes
+
+extra-stay : (f len : ℕ) (q : Point) (room : Bytes) → encoded f len q room .0 ≡ Passes
+    → drop (formatSize f) (encoded f len q room .1) ≡ drop (formatSize f) room
+extra-stay f len q room e =
+    let g : Clear (shape f len (length room)) × Clear (large q) = was-encoded f len q room e in
+    let k : Shaped f len (length room) = shaped f len (length room) (g .0) in
+    let n = formatSize f in
+    let size : length (pointBytes f q) ≡ n = length-bytes f q (k .format) in
+    rw (
+      stored f len q room (unclear (shape f len (length room)) (g .0)) (unclear (large q) (g .1)),
+      front-stored (pointBytes f q) room n size (omega arith),
+    )
+    (drop-at (pointBytes f q) (drop n room) n size)
+
 pub round-trips : RoundTrips
-round-trips = record { encode-after-decode = encode-after-decode; decode-after-encode = decode-after-encode }
+round-trips =
+    record {
+      encode-after-decode = encode-after-decode;
+      decode-after-encode = decode-after-encode;
+      extra-stay = extra-stay;
+    }

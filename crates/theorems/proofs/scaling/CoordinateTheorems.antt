@@ -18,8 +18,7 @@ use Rattle.fields.specs.Bytes.{Bytes, AllBytes, part, num}
 use Rattle.fields.proofs.ByteLaws.{num-part-lt}
 use Rattle.scaling.specs.declared.Scaling.{Scaling}
 use Rattle.scaling.proofs.ScalingLaws.{double-in}
-use Rattle.scaling.specs.Coordinate.{coordinateOf}
-use Rattle.scaling.specs.Scaling.{doubleAt, scalingIn, scalingOf, within, goodScale, goodOffset, goodScaling}
+use Rattle.scaling.specs.Scaling.{coordinateOf, doubleAt, scalingIn, scalingOf, within, goodScale, goodOffset, goodScaling}
 use Rattle.theorems.specs.Coordinates.{Axis, X, Y, Z, axisScale, axisOffset, scalePlace, offsetPlace, signed, Times, Fits32, FiniteInOrder, ExactCase, Exact, CarriedBits, Coordinates}
 use Rattle.theorems.proofs.scaling.SignedLaws.{Le, Le-mul, negative, int-order, int-sum-size, size-times}
 use Rattle.theorems.proofs.scaling.RoundLaws.{SizeUpTo, bounded-finite, le-fin, product-is, round-bounded, round-order, add-finite, add-order}

@@ -9,7 +9,7 @@ use mathlib.Core.Bool.{Bool, true, false, _&&_, _||_, or-true, and-eq-true-iff}
 use mathlib.Core.List.{List, [], _∷_, List·Memᴰ, List·Memᴰ·head, List·Memᴰ·tail}
 use lib.Dec.{T, leb, eqb}
 use Rattle.fields.specs.declared.Verdict.the-variants.{Passes}
-use Rattle.fields.specs.Lists.{some}
+use Rattle.fields.specs.Lists.{anyOf}
 use Rattle.fields.specs.Bytes.{Bytes, same}
 use Rattle.fields.proofs.ByteLaws.{same→eq, same-refl}
 use Rattle.sheet.specs.Sheet.{kind, lowest, highest, userID, recordID, lines, sheetVerdict}
@@ -57,22 +57,22 @@ names-record l user id = (
 -- ---- what is kept: some line says so
 
 module _ (p : Bytes → Bool) (P : Bytes → Type 0) (says : (l : Bytes) → (p l ≡ true) ↔ P l) where
-  pick : (l : Bytes) (ls : List Bytes) (b : Bool) → p l ≡ b → (b || some p ls) ≡ true
-      → (some p ls ≡ true → SomeLine ls P) → SomeLine (l ∷ ls) P
+  pick : (l : Bytes) (ls : List Bytes) (b : Bool) → p l ≡ b → (b || anyOf p ls) ≡ true
+      → (anyOf p ls ≡ true → SomeLine ls P) → SomeLine (l ∷ ls) P
   pick l ls true q e later = record { line = l; among = List·Memᴰ·head refl; so = says l .0 q }
   pick l ls false q e later = let w : SomeLine ls P = later e in record { line = w .line; among = List·Memᴰ·tail (w .among); so = w .so }
 
-  some-line : (ls : List Bytes) → some p ls ≡ true → SomeLine ls P
-  unfolding some
+  some-line : (ls : List Bytes) → anyOf p ls ≡ true → SomeLine ls P
+  unfolding anyOf
   some-line [] e = let z : _≡_ {A = ℕ} 0 1 = cc in absurd (omega arith)
   some-line (l ∷ ls) e = pick l ls (p l) refl e (some-line ls)
 
-  line-some : (l : Bytes) (ls : List Bytes) → List·Memᴰ l ls → p l ≡ true → some p ls ≡ true
-  unfolding some
+  line-some : (l : Bytes) (ls : List Bytes) → List·Memᴰ l ls → p l ≡ true → anyOf p ls ≡ true
+  unfolding anyOf
   line-some l (x ∷ xs) (List·Memᴰ·head q) e = rw (← q, e)
   line-some l (x ∷ xs) (List·Memᴰ·tail m) e = rw (line-some l xs m e) (or-true (p x))
 
-  some-says : (ls : List Bytes) → (some p ls ≡ true) ↔ SomeLine ls P
+  some-says : (ls : List Bytes) → (anyOf p ls ≡ true) ↔ SomeLine ls P
   some-says ls = (some-line ls, λ w. line-some (w .line) ls (w .among) (says (w .line) .1 (w .so)))
 
 keeps-class : (sheet : Bytes) (c : ℕ)
@@ -98,7 +98,7 @@ none = lines-from [] ∙ lines-end 64 [] (omega arith)
 
 empty : (sheetVerdict [] ≡ Passes) × ((c : ℕ) → keepsClass [] c ≡ false)
     × ((user : Bytes) (id : ℕ) → keepsRecord [] user id ≡ false)
-unfolding keepsClass keepsRecord some
+unfolding keepsClass keepsRecord anyOf
 empty = (verdict-from [] ∙ verdict-end 64 [] (omega arith), λ c. rw none, λ user id. rw none)
 
 pub kept-by-lines : KeptByLines

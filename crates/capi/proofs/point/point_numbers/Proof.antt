@@ -1,23 +1,16 @@
--- `point::point_numbers` meets its contract: a signed field that is copied is the one that was given. Assumes nothing.
-use mathlib.Core.Path.{refl}
-use mir.Syntax.{w8, w32}
-use mir.ValLaws.{toZ-ofZ}
-use Rattle.capi.specs.PointAnswers.{foundPoint}
+-- `point::point_numbers` meets its contract. Assumes nothing.
+use Rattle.capi.specs.PointAnswers.{pointNumbers}
+use borrow.Author.Needs.{needs}
 use Rattle.capi.proofs.point.point_numbers.Statement.{statement}
 use Rattle.capi.proofs.point.point_numbers.Tie as tie
 
 returns : tie.Need-returns
-unfolding foundPoint
-returns c =
-    let p = c .before .before .before .args .point in
-    let told = c .struct-told .given in
-    rw (
-      toZ-ofZ w32 (p .x) (record { sfits = told .0 .1 }),
-      toZ-ofZ w32 (p .y) (record { sfits = told .1 .0 .1 }),
-      toZ-ofZ w32 (p .z) (record { sfits = told .1 .1 .0 .1 }),
-      toZ-ofZ w8 (p .«scan_angle») (record { sfits = told .1 .1 .1 .1 .1 .1 .1 .1 .1 .0 .1 }),
-    )
-    refl
+unfolding pointNumbers
+returns c = rw (c .before .before .answer .given .1) (c .found-point .ensures)
+
+returns-2 : tie.Need-returns-2
+unfolding pointNumbers
+returns-2 c = rw (c .before .before .answer2 .given .1) (c .no-point .ensures)
 
 pub point-numbers-spec : {M : Type 1} → statement M
-point-numbers-spec = tie.close (tie.spec (λ c. tt) (λ c. tt) returns)
+point-numbers-spec = tie.close (tie.spec (λ c. search needs) (λ c κs. tt) (λ c. search needs) (λ c κs. tt) returns returns-2)

@@ -7,7 +7,7 @@ use lib.ListN.{length}
 use lib.Seq.{sets, length-sets}
 use Rattle.fields.specs.Bytes.{bytesOf}
 use Rattle.fields.proofs.ByteLaws.{length-bytesOf}
-use Rattle.points.specs.Shared.{sharedFields}
+use Rattle.points.specs.Encoding.{sharedFields}
 use Rattle.points.proofs.common.BitsLaws.{cast-wider, passed, passed-byte}
 use Rattle.points.proofs.common.RoomLaws.{then-more, last-field}
 use Rattle.points.proofs.common.put_shared.Statement.{statement}

@@ -20,8 +20,8 @@ returns : tie.Need-returns
 unfolding withHead
 returns c =
     let a = c .before .before .before .before .before .before .before .before .args in
-    let totals : HeadTotals = c .before .before .before .before .totals-of .result in
-    let said : totals ≡ totalsOf (now (a .file)) (tallyOf (format (now (a .file))) (pointsOf (a .points) (recordLength (now (a .file))) (drop (a .start) (now (a .out))))) (a .records) (a .start) = c .before .before .before .before .totals-of .ensures in
+    let totals : HeadTotals = c .before .before .before .before .totals-in .result in
+    let said : totals ≡ totalsOf (now (a .file)) (tallyOf (format (now (a .file))) (pointsOf (a .points) (recordLength (now (a .file))) (drop (a .start) (now (a .out))))) (a .records) (a .start) = c .before .before .before .before .totals-in .ensures in
     let headed : c .before .before .put-head .last .1 .1 .0 ≡ sets (now (a .out)) 0 (headBytes (now (a .file)) totals) = c .before .before .put-head .ensures in
     headed ∙ rw said
 

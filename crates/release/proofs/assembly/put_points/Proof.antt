@@ -7,7 +7,8 @@ use denote.Ref.{now}
 use lib.ListN.{length, take, drop}
 use Rattle.fields.specs.Bytes.{Bytes, join, zeros}
 use Rattle.release.proofs.vlrs.KeptLaws.{from-place}
-use Rattle.release.specs.Assembly.{keptPoints, pointsBytes}
+use Rattle.release.specs.Assembly.{pointsBytes}
+use Rattle.release.specs.KeptPoints.{keptPoints}
 use Rattle.release.proofs.assembly.PointLaws.{not-reached, points-back}
 use borrow.Author.Needs.{needs}
 use Rattle.release.proofs.assembly.put_points.Statement.{statement}

@@ -4,14 +4,14 @@ use denote.Ref.{now}
 use lib.ListN.{length}
 use lib.Seq.{take-nil}
 use Rattle.fields.specs.Bytes.{join}
-use Rattle.points.proofs.raw.RunLaws.{Held, in-run}
+use Rattle.points.proofs.raw.RunLaws.{InRun, in-run}
 use Rattle.release.proofs.kept_points.KeptPointLaws.{kept-held, kept-none}
 use borrow.Author.Needs.{needs}
 use Rattle.release.proofs.copier.copy_front.Statement.{statement}
 use Rattle.release.proofs.copier.copy_front.Tie as tie
 
 -- the run holds the records
-held : (c : tie.Then1) → let a = c .before .before .before .before .args in Held (a .count) (a .record-length) (length (now (a .run)))
+held : (c : tie.Then1) → let a = c .before .before .before .before .args in InRun (a .count) (a .record-length) (length (now (a .run)))
 held c = in-run _ _ _ (sym (c .before .holds .ensures) ∙ c .if1 .taken)
 
 copy-run-requires : tie.Need-copy-run-requires

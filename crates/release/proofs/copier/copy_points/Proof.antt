@@ -4,7 +4,7 @@ use denote.Ref.{now}
 use lib.ListN.{length}
 use lib.Seq.{sets}
 use Rattle.fields.specs.Bytes.{join, zeros}
-use Rattle.release.specs.Assembly.{keptPoints}
+use Rattle.release.specs.KeptPoints.{keptPoints}
 use Rattle.release.proofs.copier.FrontLaws.{zeroed}
 use borrow.Author.Needs.{needs}
 use Rattle.release.proofs.copier.copy_points.Statement.{statement}

@@ -2,13 +2,13 @@
 use mathlib.Core.Path.{sym, ap, _∙_}
 use denote.Ref.{now}
 use lib.ListN.{length}
-use Rattle.points.proofs.raw.RunLaws.{Held, in-run}
+use Rattle.points.proofs.raw.RunLaws.{InRun, in-run}
 use Rattle.release.proofs.kept_points.KeptPointLaws.{kept-held, kept-none}
 use Rattle.release.proofs.kept_points.count_points.Statement.{statement}
 use Rattle.release.proofs.kept_points.count_points.Tie as tie
 
 -- the run holds the records
-held : (c : tie.Then1) → let a = c .before .before .before .args in Held (a .count) (a .record-length) (length (now (a .run)))
+held : (c : tie.Then1) → let a = c .before .before .before .args in InRun (a .count) (a .record-length) (length (now (a .run)))
 held c = in-run _ _ _ (sym (c .before .holds .ensures) ∙ c .if1 .taken)
 
 count-run-requires : tie.Need-count-run-requires

@@ -6,7 +6,7 @@ use mathlib.Core.Logic.{⊎-elim}
 use native.Mathlib.Omega.{arith}
 use lib.Seq.{sets}
 use Rattle.fields.specs.Bytes.{Bytes, AllBytes}
-use Rattle.lasfile.specs.Records.{recordOf, recordLen, recordBytes}
+use Rattle.lasfile.specs.Records.{recordOf, writtenLength, recordBytes}
 use Rattle.publicpart.specs.Public.{keptRecord}
 use Rattle.release.proofs.vlrs.KeptLaws.{from-place, Copying, copying-begins, copying-kept, copying-past, copying-ends}
 use Rattle.release.proofs.vlrs.copy_records.Statement.{statement}
@@ -50,7 +50,7 @@ loop-again c =
       l .inv .0,
       ⊎-elim
           (λ w.
-          let long = w .5 .ensures .0 ∙ ap (λ (v : Bytes). recordLen 2 (recordOf 2 v)) here in
+          let long = w .5 .ensures .0 ∙ ap (λ (v : Bytes). writtenLength 2 (recordOf 2 v)) here in
           let stored = w .2 .ensures ∙ ap (λ (v : Bytes). sets (l .out) (l .to) (recordBytes 2 (recordOf 2 v))) here in
           rw (w .6, w .7, long, size .0) (copying-kept sheet s _ _ (l .inv .0) (l .left) (l .at) (l .to) (omega arith) small (l .inv .1) _ stored (w .2 .kept .1 .0) (sym keeps ∙ w .0 .taken)))
           (λ w. rw (w .1, w .2, size .0) (copying-past sheet s _ _ (l .inv .0) (l .left) (l .at) (l .to) (omega arith) small (l .inv .1) (sym keeps ∙ w .0 .left)))

@@ -5,7 +5,7 @@ use mathlib.Core.Path.{sym, ap, _∙_}
 use mathlib.Core.Logic.{⊎-elim}
 use native.Mathlib.Omega.{arith}
 use Rattle.fields.specs.Bytes.{Bytes, AllBytes}
-use Rattle.lasfile.specs.Records.{recordOf, recordLen}
+use Rattle.lasfile.specs.Records.{recordOf, writtenLength}
 use Rattle.publicpart.specs.Public.{keptRecord}
 use Rattle.release.proofs.vlrs.KeptLaws.{from-place, Measuring, measuring-begins, measuring-kept, measuring-past, measuring-ends}
 use Rattle.release.proofs.vlrs.measure.Statement.{statement}
@@ -52,7 +52,7 @@ loop-again c =
       l .inv .0,
       ⊎-elim
           (λ w.
-          let long = w .1 .ensures .0 ∙ ap (λ (v : Bytes). recordLen 2 (recordOf 2 v)) here in
+          let long = w .1 .ensures .0 ∙ ap (λ (v : Bytes). writtenLength 2 (recordOf 2 v)) here in
           rw (w .2, w .3, long, size .0) (measuring-kept sheet s (l .inv .0) (l .left) (l .at) (l .count) (l .length) (omega arith) small (l .inv .1) (sym keeps ∙ w .0 .taken)))
           (λ w. rw (w .1, w .2, size .0) (measuring-past sheet s (l .inv .0) (l .left) (l .at) (l .count) (l .length) (omega arith) small (l .inv .1) (sym keeps ∙ w .0 .left)))
           (c .before .if1 .came),

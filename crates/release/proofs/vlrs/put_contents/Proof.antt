@@ -1,8 +1,10 @@
 -- `vlrs::put_contents` meets its contract. Assumes nothing.
-use mathlib.Core.Path.{_≡_, _∙_}
+use mathlib.Core.Path.{_≡_, sym, ap, _∙_}
 use native.Mathlib.Omega.{arith}
 use denote.Ref.{now}
-use Rattle.fields.specs.Bytes.{AllBytes}
+use lib.Seq.{sets}
+use Rattle.fields.specs.Bytes.{Bytes, AllBytes}
+use Rattle.fields.specs.Text.{padded}
 use Rattle.lasfile.specs.Records.{Record, recordOf}
 use Rattle.lasfile.proofs.vlr.FieldLaws.{description-of}
 use Rattle.release.proofs.vlrs.RecordPartLaws.{sound, content-stored}
@@ -17,8 +19,11 @@ returns c =
     let bytes : AllBytes v = λ i. omega (arith, c .before .before .before .before .before .before .before .before .before .before .before .before .before .before .shared-slice-known .given i) in
     let r : Record = recordOf 2 v in
     let payload : now (c .before .before .before .before .before .before .before .before .before .before .before .before .payload-of .result) ≡ r .payload = c .before .before .before .before .before .before .before .before .before .before .before .before .payload-of .ensures in
+    let put = c .before .before .before .before .before .before in
+    let description : put .put-text .last .0 ≡ sets (c .before .before .before .before .before .before .before .before .before .before .put-number .last .0) 22 (padded 32 (r .description)) =
+    put .put-text .ensures ∙ ap (λ (t : Bytes). sets (c .before .before .before .before .before .before .before .before .before .before .put-number .last .0) 22 (padded 32 t)) (sym (description-of 2 v)) in
     c .before .before .copy .ensures
-    ∙ rw (c .before .before .before .before .before .before .put-text .ensures, c .before .before .before .before .before .before .before .before .before .before .put-number .ensures, ← description-of 2 v, payload) (content-stored (now (a .out)) r (sound v bytes))
+    ∙ rw (description, c .before .before .before .before .before .before .before .before .before .before .put-number .ensures, payload) (content-stored (now (a .out)) r (sound v bytes))
 
 pub put-contents-spec : {M : Type 1} → statement M
 put-contents-spec =

@@ -2,7 +2,9 @@
 use mathlib.Core.Path.{_≡_, sym, ap, _∙_}
 use native.Mathlib.Omega.{arith}
 use denote.Ref.{now}
-use Rattle.fields.specs.Bytes.{AllBytes, bytesOf}
+use lib.Seq.{sets}
+use Rattle.fields.specs.Bytes.{Bytes, AllBytes, bytesOf}
+use Rattle.fields.specs.Text.{padded}
 use Rattle.lasfile.specs.Records.{Record, recordOf}
 use Rattle.lasfile.proofs.vlr.FieldLaws.{user-of, id-of}
 use Rattle.release.proofs.vlrs.RecordPartLaws.{sound, name-stored}
@@ -17,8 +19,11 @@ returns c =
     let bytes : AllBytes v = λ i. omega (arith, c .before .before .before .before .before .before .before .before .before .before .before .before .before .before .shared-slice-known .given i) in
     let r : Record = recordOf 2 v in
     let id : bytesOf 2 (c .before .before .before .number-at .result) ≡ bytesOf 2 (r .id) = ap (bytesOf 2) (c .before .before .before .number-at .ensures .0 ∙ sym (id-of 2 v)) in
+    let put = c .before .before .before .before .before .before .before in
+    let user : put .put-text .last .0 ≡ sets (c .before .before .before .before .before .before .before .before .before .before .before .zero .last .0) 2 (padded 16 (r .user)) =
+    put .put-text .ensures ∙ ap (λ (t : Bytes). sets (c .before .before .before .before .before .before .before .before .before .before .before .zero .last .0) 2 (padded 16 t)) (sym (user-of 2 v)) in
     c .before .before .put-number .ensures
-    ∙ rw (c .before .before .before .before .before .before .before .put-text .ensures, c .before .before .before .before .before .before .before .before .before .before .before .zero .ensures, ← user-of 2 v, id) (name-stored (now (a .out)) r (sound v bytes))
+    ∙ rw (user, c .before .before .before .before .before .before .before .before .before .before .before .zero .ensures, id) (name-stored (now (a .out)) r (sound v bytes))
 
 pub put-name-spec : {M : Type 1} → statement M
 put-name-spec =

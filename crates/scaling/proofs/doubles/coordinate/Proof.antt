@@ -2,7 +2,7 @@
 use mathlib.Core.Path.{refl}
 use mir.Syntax.{w32}
 use mir.ValLaws.{toZ-ofZ}
-use Rattle.scaling.specs.Coordinate.{coordinateOf}
+use Rattle.scaling.specs.Scaling.{coordinateOf}
 use Rattle.scaling.proofs.doubles.coordinate.Statement.{statement}
 use Rattle.scaling.proofs.doubles.coordinate.Tie as tie
 

@@ -2,7 +2,7 @@
 use mathlib.Core.Path.{refl}
 use mir.Syntax.{w32}
 use mir.ValLaws.{toZ-ofZ}
-use Rattle.scaling.specs.Coordinate.{coordinateBits}
+use Rattle.scaling.specs.Scaling.{coordinateBits}
 use Rattle.scaling.proofs.doubles.coordinate_bits.Statement.{statement}
 use Rattle.scaling.proofs.doubles.coordinate_bits.Tie as tie
 

@@ -3,7 +3,7 @@
 -- Assumes nothing.
 use mathlib.Core.Path.{_≡_, sym, ap, _∙_}
 use native.Mathlib.Omega.{arith}
-use Rattle.fields.specs.Lists.{some}
+use Rattle.fields.specs.Lists.{anyOf}
 use Rattle.fields.specs.Text.{cut}
 use Rattle.sheet.specs.Sheet.{lines, linesFrom}
 use Rattle.sheet.proofs.LineLaws.{lines-from}
@@ -13,13 +13,13 @@ use Rattle.sheet.proofs.lookup.some_line_keeps.Statement.{statement}
 use Rattle.sheet.proofs.lookup.some_line_keeps.Tie as tie
 
 abbrev Inv-loop : tie.InvT-loop
-Inv-loop sheet sought user rest₀ left₀ rest left = some (lineKeeps sought (cut user)) (lines sheet) ≡ some (lineKeeps sought (cut user)) (linesFrom left rest)
+Inv-loop sheet sought user rest₀ left₀ rest left = anyOf (lineKeeps sought (cut user)) (lines sheet) ≡ anyOf (lineKeeps sought (cut user)) (linesFrom left rest)
 
 abbrev μ-loop : tie.MeasureT-loop
 μ-loop sheet sought user rest₀ left₀ rest left = left
 
 loop-holds : tie.Need-loop-holds Inv-loop μ-loop
-loop-holds c = ap (some _) (lines-from _)
+loop-holds c = ap (anyOf _) (lines-from _)
 
 returns : tie.Need-returns Inv-loop μ-loop
 returns c =

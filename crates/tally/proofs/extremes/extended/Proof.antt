@@ -2,7 +2,8 @@
 use mathlib.Core.Path.{_≡_}
 use mir.Syntax.{w32}
 use mir.Val.{toZ, ofZ}
-use Rattle.tally.specs.Extremes.{largerOf, smallerOf, extremesWith}
+use Rattle.publicpart.specs.Bounds.{largerOf, smallerOf}
+use Rattle.tally.specs.Extremes.{extremesWith}
 use Rattle.tally.proofs.extremes.ExtremeLaws.{by-bits}
 use Rattle.tally.proofs.extremes.extended.Statement.{statement}
 use Rattle.tally.proofs.extremes.extended.Tie as tie
