@@ -1,5 +1,6 @@
 #!/usr/bin/env python3
-"""Writes the sample cards: cards/NAME/in.las, sheet.bin, and what the program makes of them: expected.las and line.
+"""Writes the sample cards: cards/NAME/in.las, sheet.bin, and what the program makes of them: expected.las and line, and
+expected-empty.las under the empty sheet.
 
 Plain code written from the requirements (docs/SPECIFICATION.md). It shares nothing with the crates, so expected.las is
 a second opinion on what they release. Run it anywhere: python3 cards/make.py
@@ -172,6 +173,7 @@ for name, (f, sheet) in (("yard", yard()), ("survey", survey())):
     released = release(f, sheet)
     records, points = struct.unpack_from("<I", released, 100)[0], struct.unpack_from("<I", released, 107)[0]
     line = b"released %d points %d records %d\n" % (len(released), points, records)
-    for file, content in (("in.las", f), ("sheet.bin", sheet), ("expected.las", released), ("line", line)):
+    for file, content in (("in.las", f), ("sheet.bin", sheet), ("expected.las", released), ("line", line),
+                          ("expected-empty.las", release(f, b""))):
         with open(os.path.join(folder, file), "wb") as out:
             out.write(content)

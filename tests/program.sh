@@ -2,8 +2,8 @@
 # Runs the program as a user would, in folders of its own: refusals, their order, and what stays in the folder.
 # Usage: tests/program.sh PROGRAM CARD; its last line is 'N passed, M failed'.
 set -u
-program=$1
-card=$2
+program=$(realpath -e -- "${1:?usage: tests/program.sh PROGRAM CARD}") || exit 1
+card=$(realpath -e -- "${2:?usage: tests/program.sh PROGRAM CARD}") || exit 1
 scratch=$(mktemp -d) || exit 1
 trap 'rm -rf "$scratch"' EXIT
 passed=0
@@ -35,9 +35,12 @@ holds() {
 
 # fresh: a new folder with the card's files.
 fresh() {
-    folder=$(mktemp -d "$scratch/XXXXXX")
-    cp "$card/in.las" "$card/sheet.bin" "$folder"
+    folder=$(mktemp -d "$scratch/XXXXXX") || exit 1
+    cp "$card/in.las" "$card/sheet.bin" "$folder" || exit 1
 }
+
+# an older out.las, to see that it stays or is replaced
+echo older >"$scratch/older" || exit 1
 
 fresh
 expect "a card" "$(cat "$card/line")"
@@ -81,9 +84,9 @@ expect "no sheet.bin" "refused 51"
 
 fresh
 printf 'KT\001' >"$folder/sheet.bin"
-echo older >"$folder/out.las"
+cp "$scratch/older" "$folder/out.las"
 expect "a wrong mark on the sheet" "refused 20"
-holds "an older out.las survives a refusal" grep -qx older "$folder/out.las"
+holds "an older out.las survives a refusal" cmp "$folder/out.las" "$scratch/older"
 cp "$card/sheet.bin" "$folder"
 expect "a release over an older out.las" "$(cat "$card/line")"
 holds "which it replaces" cmp "$folder/out.las" "$card/expected.las"
@@ -95,14 +98,15 @@ holds "it stays" test -d "$folder/out.las"
 holds "no part is left of a failed write" test ! -e "$folder/out.las.part"
 
 fresh
-echo older >"$folder/out.las"
+cp "$scratch/older" "$folder/out.las"
 mkdir "$folder/out.las.part"
 expect "an out.las.part that can't be written" "refused 51"
-holds "an older out.las survives a failed write" grep -qx older "$folder/out.las"
+holds "an older out.las survives a failed write" cmp "$folder/out.las" "$scratch/older"
 
 fresh
 : >"$folder/sheet.bin"
 expect "an empty sheet" "released 227 points 0 records 0"
+holds "its release" cmp "$folder/out.las" "$card/expected-empty.las"
 
 echo "$passed passed, $failed failed"
 [ "$failed" -eq 0 ]

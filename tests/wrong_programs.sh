@@ -1,5 +1,6 @@
 #!/usr/bin/env bash
-# Reads what the prover said of each must-fail edit, after `rt ci` or `rt must-fail`: wrong_programs.sh TARGET
+# Reads what the prover said of each must-fail edit, after `rt ci` or `rt must-fail`: wrong_programs.sh TARGET [CRATE..]
+# TARGET is the folder that rt writes to, target/ of the repository; with no CRATE it reads the edits of all.
 # rt asks that an edit is refused. An edit holds several wrong programs, at most one of each function, since each try
 # checks the whole crate. So each wrong program is named, '# NAME: what is wrong; differs where INPUT', and this asks
 # that its own proof is refused, at a fact. A proof rests on the contracts of the functions called, which no edit
@@ -11,15 +12,23 @@
 # that nobody has looked at yet. docs/DECISIONS.md says what such an error shows, and what it does not.
 # Its last line is 'N passed, M failed', a wrong program each.
 set -uo pipefail
+target=$(realpath -e -- "${1:?usage: tests/wrong_programs.sh TARGET [CRATE..]}") || exit 1
+shift
 cd "$(dirname "$0")/.." || exit 1
-target=${1:?usage: tests/wrong_programs.sh TARGET}
 passed=0
 failed=0
+crates=("$@")
+if [[ $# -eq 0 ]]; then
+    for folder in crates/*/must-fail/; do
+        folder=${folder#crates/}
+        crates+=("${folder%%/*}")
+    done
+fi
 
 # The kinds of errors that count, by their first words, behind the name of the declaration, and by what they go on to
 # say. A term stands between backquotes.
 words='as printed, the two |computed as far as they go, the two |`omega`: the goal |expected type '
-words="error: \`[^\`]*\`: ($words|give a proof of that as the last argument, \`simp )"
+words="error: \`[^\`]*\`: ($words|give a proof of that as the last argument, \`(simp |rw L t\`))"
 term='`([^`]*)`'
 side='\((expected|found|left)\)'
 things='the two (types|values|sides)'
@@ -27,17 +36,21 @@ pair="where one has $term $side(, at the start|, right after \`[^\`]*\`)?,? and 
 # what is to be proved and what the proof gives are computed, and differ in a term; or they differ as they are written
 differ_computed="computed as far as they go, $things (differ only|first differ) $pair"
 are_computed="computed as far as they go, $things are $term $side and $term"
-differ_printed="as printed, $things (differ only) $pair"
+differ_printed="as printed, $things (differ only|first differ) $pair"
 # omega gives numbers at which all that it knows holds and the goal does not
 counterexample='`omega`: the goal does not follow from what it read\. All of that holds, and the goal fails, at '
-# simp leaves an equation of two terms that are not equal
-two_ends="what it leaves must be a path whose two ends are equal, and $term is none"
-# an equation or a comparison is wanted and another one is given
+# simp or rw leaves an equation of two terms that are not equal
+two_ends='what it leaves must be a path whose two ends are equal, and `Path [^`]*` is none'
+# An equation or a comparison is wanted and another one is given. What is asked: the two are written otherwise, and each
+# has such a relation. What is not: that all of both is known, or printed. The prover says here which fact it has and
+# which it wants before it has found each part of them (`?13`, `?3 c`), and where they are long it prints how they begin
+# ('the first 4096 bytes of the two types are identical'). So this kind is the weakest.
 another="expected type $term,? but this has type $term"
 begins="the expected one begins $term"
 relation='(≡|≤|<|Path) |_≡_|_≤_|_<_'
 
-# two_terms ONE OTHER: they are two terms, and neither has a part that is not known yet.
+# two_terms ONE OTHER: they are two terms, and neither has a part that is not known yet (`?13`). The level of a type
+# (`?ℓ0`) may be: no value depends on it.
 two_terms() {
     [[ $1 != "$2" && ! "$1 $2" =~ \?[0-9] ]]
 }
@@ -101,20 +114,31 @@ judge() {
     fi
 }
 
-for edit in crates/*/must-fail/*.edit; do
-    crate=${edit#crates/}
-    crate=${crate%%/*}
-    label=$(basename "$edit" .edit)
-    named=0
+# read_edit CRATE LABEL FILE: judges each wrong program of an edit.
+read_edit() {
+    local line named=0
     while IFS= read -r line; do
         if [[ $line =~ ^#\ ([A-Za-z0-9_:.-]+):\ (.+)$ ]]; then
             named=$((named + 1))
-            judge "$crate" "$label" "${BASH_REMATCH[1]}" "${BASH_REMATCH[2]}"
+            judge "$1" "$2" "${BASH_REMATCH[1]}" "${BASH_REMATCH[2]}"
         fi
-    done <"$edit"
+    done <"$3"
     if [[ $named -eq 0 ]]; then
         failed=$((failed + 1))
-        echo "NAMES NO WRONG PROGRAM $crate/$label"
+        echo "NAMES NO WRONG PROGRAM $1/$2"
+    fi
+}
+
+for crate in "${crates[@]}"; do
+    edits=0
+    for edit in "crates/$crate/must-fail"/*.edit; do
+        [[ -f $edit ]] || continue
+        edits=$((edits + 1))
+        read_edit "$crate" "$(basename "$edit" .edit)" "$edit"
+    done
+    if [[ $edits -eq 0 ]]; then
+        failed=$((failed + 1))
+        echo "HAS NO EDIT $crate"
     fi
 done
 echo "$passed passed, $failed failed"

@@ -24,28 +24,35 @@ holds() {
     fi
 }
 
-# expect NAME LINE PROGRAM: the program prints exactly that, and succeeds.
+# expect NAME LINE PROGRAM: the program prints that line and its newline, byte by byte, and no more, and succeeds.
 expect() {
-    local line
-    if line=$("$3") && [ "$line" = "$2" ]; then
+    local status
+    "$3" >"$scratch/said"
+    status=$?
+    if [ "$status" -eq 0 ] && printf '%s\n' "$2" | cmp -s - "$scratch/said"; then
         passed=$((passed + 1))
     else
-        echo "$1: expected '$2', got '$line'"
+        echo "$1: expected '$2', a newline and status 0, got status $status and:"
+        od -An -c "$scratch/said"
         failed=$((failed + 1))
     fi
 }
 
-# add PROGRAM: adds up the program's own last line, 'N passed, M failed'; a program that has none counts as one failure.
+# add PROGRAM: adds up the program's own last line, 'N passed, M failed'. One that has none, passes nothing, or fails
+# without saying so, counts as one failure.
 add() {
-    local lines
-    lines=$("$1")
-    if [[ ${lines##*$'\n'} =~ ^([0-9]+)\ passed,\ ([0-9]+)\ failed$ ]]; then
-        passed=$((passed + BASH_REMATCH[1]))
-        failed=$((failed + BASH_REMATCH[2]))
-        [ "${BASH_REMATCH[2]}" -eq 0 ] || echo "$lines"
-    else
-        echo "$1 ended early: $lines"
-        failed=$((failed + 1))
+    local status p=0 f=0
+    "$1" >"$scratch/said"
+    status=$?
+    if [[ $(tail -n 1 "$scratch/said") =~ ^([0-9]+)\ passed,\ ([0-9]+)\ failed$ ]]; then
+        p=${BASH_REMATCH[1]} f=${BASH_REMATCH[2]}
+    fi
+    if [[ $f -eq 0 && ( $status -ne 0 || $p -eq 0 ) ]]; then f=1; fi
+    passed=$((passed + p))
+    failed=$((failed + f))
+    if [[ $f -ne 0 ]]; then
+        echo "$1: status $status, and it says:"
+        cat "$scratch/said"
     fi
 }
 

@@ -14,13 +14,19 @@
 //! All else:
 //! - every folder of crates/ stands in crates.txt;
 //! - docs/PROMISES.md lists public functions only, and each once;
+//! - every wrong program that it cites, 'what is wrong (`LABEL`): INPUT', stands in that edit with those words, and is
+//!   of the row's function, or of the private one behind "in `f`: ", or in the other tables of a statement;
+//! - each row of its table of theorems cites at least two;
+//! - it says how many wrong programs there are, and how many edits;
 //! - every wrong program says where it differs: '# NAME: what is wrong; differs where INPUT';
 //! - every wrong program of a function changes that function, or a constant that it reads;
 //! - no wrong program changes a constant that the function of another one in its edit reads: that one would be refused
 //!   for a change that is not its own;
-//! - comments, contracts and the prose of *.md end by column 120 (not `use` lines, code, tables, proof terms or edits);
+//! - comments, contracts and the prose of *.md end by column 120 (not `use` lines, code, proof terms or edits), rows of
+//!   tables by 130, but for docs/PROMISES.md and rows with `<br>`;
 //! - no proof has a hole or cites the axioms `lem` and `ac`.
 
+mod cited;
 mod crates;
 mod functions;
 mod programs;
@@ -44,11 +50,20 @@ pub struct Report {
 
 type Rule = (&'static str, fn(&Repository) -> Result<Vec<String>>);
 
-const RULES: [Rule; 7] = [
+const RULES: [Rule; 10] = [
     ("crates that crates.txt does not list", crates::unlisted),
     (
         "promises of what is no public function",
         promises::of_nothing,
+    ),
+    ("citations of what is no wrong program", cited::of_nothing),
+    (
+        "theorems that cite fewer than two wrong statements",
+        cited::too_few,
+    ),
+    (
+        "counts of wrong programs and edits that are not true",
+        cited::miscounted,
     ),
     (
         "wrong programs that do not say where they differ",
@@ -63,7 +78,7 @@ const RULES: [Rule; 7] = [
         programs::meeting,
     ),
     (
-        "comments, contracts and prose beyond column 120",
+        "comments, contracts, prose and tables that are too wide",
         width::too_wide,
     ),
     ("holes and axioms in proofs", proofs::unproved),
@@ -139,10 +154,7 @@ mod tests {
     pub fn sound() -> Sample {
         Sample::new(&[
             ("crates.txt", "# NAME: what it needs\nc:\n"),
-            (
-                "docs/PROMISES.md",
-                "| Function | Does |\n|---|---|\n| `c::f` | adds |\n",
-            ),
+            ("docs/PROMISES.md", PROMISES),
             ("crates/c/src/lib.rt", SOURCE),
             ("crates/c/proofs/f/Proof.antt", "f-meets = refl\n"),
             (
@@ -155,6 +167,9 @@ mod tests {
             ),
         ])
     }
+
+    pub const PROMISES: &str = "2 wrong programs and statements stand in 2 edits: more.\n\n\
+        | Function | Does | Wrong |\n|---|---|---|\n| `c::f` | adds | wrong (`wrong_1`): a is 7 |\n";
 
     pub const SOURCE: &str = "const ONE: u8 = 1;\npub fn f(a: u8) -> u8\n    ensures { λ r. ⌜ r ≡ next a ⌝ }\n{\n    \
         a + ONE\n}\n";
@@ -188,12 +203,15 @@ mod tests {
                 "    0 public functions to which something is objected of 1",
                 "    0 crates that crates.txt does not list",
                 "    0 promises of what is no public function",
+                "    0 citations of what is no wrong program",
+                "    0 theorems that cite fewer than two wrong statements",
+                "    0 counts of wrong programs and edits that are not true",
                 "    0 wrong programs that do not say where they differ",
                 "    0 wrong programs that change something else than their function",
                 "    0 constants that two wrong programs of one edit meet in",
-                "    0 comments, contracts and prose beyond column 120",
+                "    0 comments, contracts, prose and tables that are too wide",
                 "    0 holes and axioms in proofs",
-                "8 passed, 0 failed",
+                "11 passed, 0 failed",
             ]
         );
     }
@@ -207,7 +225,7 @@ mod tests {
                 .lines
                 .contains(&"no c::f (crates/c/src/lib.rt:2)".to_string())
         );
-        assert_eq!(report.lines.last().unwrap(), "6 passed, 2 failed");
+        assert_eq!(report.lines.last().unwrap(), "8 passed, 3 failed");
     }
 
     #[test]

@@ -8,6 +8,7 @@
 //! They rest on the standard library alone, and not on the proved one: they run before anything is built.
 
 pub mod audit;
+mod citations;
 pub mod edits;
 mod files;
 pub mod pack;

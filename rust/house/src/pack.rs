@@ -9,20 +9,23 @@
 //!
 //! A function that calls another is no reason: its proof rests on the callee's contract alone, which neither changes.
 //!
-//! The edits are named wrong_1.edit, wrong_2.edit, ..; those of an earlier run stay as they are where nothing in them
-//! clashes, and only grow. So to add a wrong program, write it into an edit of any name and run this. Labels that the
-//! papers in docs/ cite are set right. tests/wrong_programs.sh asks of each wrong program that its own proof is
-//! refused.
+//! The edits are named wrong_1.edit, wrong_2.edit, ..; those of an earlier run stay as they are and only grow, unless
+//! two in one are of one function or law, meet in a constant, or cannot both be replaced. What rests on what is asked
+//! of new ones alone, since file by file it says too much: many statements of one file share an edit, each refused by
+//! its own law. So to add a wrong program, write it into an edit of any name and run this. Labels that the papers in
+//! docs/ cite are set right. tests/wrong_programs.sh asks of each wrong program that its own proof is refused.
 
 mod clash;
 mod groups;
 mod imports;
 mod papers;
 
+use crate::citations::Owners;
 use crate::edits::{self, WrongProgram};
 use crate::files::{self, Result};
+use crate::sources;
 use clash::Clashes;
-use papers::Moved;
+use papers::Packed;
 use std::path::{Path, PathBuf};
 
 /// The number of a label that an earlier run gave, wrong_NUMBER.
@@ -44,22 +47,56 @@ pub fn pack(root: &Path, crates: &[&str]) -> Result<Vec<String>> {
         named.extend(all.iter().map(String::as_str));
     }
     named.retain(|in_crate| root.join(edits_folder(in_crate)).is_dir());
-    let (mut said, mut moved) = (Vec::new(), Moved::default());
+    let (mut said, mut now) = (Vec::new(), Packed::default());
     for in_crate in named {
-        said.extend(pack_crate(root, in_crate, &mut moved)?);
+        let edits = packed(root, in_crate, &mut now)?;
+        edits.write(root)?;
+        said.extend(edits.said);
     }
-    for paper in files::with_suffix(root, Path::new("docs"), "md")? {
-        let text = files::read(root, &paper)?;
-        let right = moved.set_right(&text, |name| root.join(files::crate_folder(name)).is_dir());
-        if right != text {
-            files::write(root, &paper, &right)?;
-        }
+    for (paper, text) in papers_of(root, &now)? {
+        files::write(root, &paper, &text)?;
     }
     Ok(said)
 }
 
-/// Packs one crate, and notes where each wrong program went.
-fn pack_crate(root: &Path, in_crate: &str, moved: &mut Moved) -> Result<Vec<String>> {
+/// The papers whose labels are to be set right, with their texts.
+fn papers_of(root: &Path, now: &Packed) -> Result<Vec<(PathBuf, String)>> {
+    let (mut functions, mut found) = (Vec::new(), Vec::new());
+    for in_crate in files::crate_names(root)? {
+        functions.extend(sources::functions(root, &in_crate)?);
+    }
+    let owners = Owners::of(functions.iter());
+    for paper in files::with_suffix(root, Path::new("docs"), "md")? {
+        let text = files::read(root, &paper)?;
+        let right = now.set_right(&text, &owners);
+        if right != text {
+            found.push((paper, right));
+        }
+    }
+    Ok(found)
+}
+
+/// The edits of a crate as they are and as they will be.
+struct Edits {
+    said: Vec<String>,
+    before: Vec<PathBuf>,
+    after: Vec<(PathBuf, String)>,
+}
+
+impl Edits {
+    fn write(&self, root: &Path) -> Result<()> {
+        for edit in &self.before {
+            files::remove(root, edit)?;
+        }
+        for (edit, text) in &self.after {
+            files::write(root, edit, text)?;
+        }
+        Ok(())
+    }
+}
+
+/// Packs one crate, and notes where each wrong program goes. Writes nothing yet.
+fn packed(root: &Path, in_crate: &str, now: &mut Packed) -> Result<Edits> {
     let programs = edits::programs_of(root, in_crate)?;
     if let Some(empty) = programs.iter().find(|program| program.changes.is_empty()) {
         return Err(format!("{}: changes nothing", empty.cited()));
@@ -69,23 +106,24 @@ fn pack_crate(root: &Path, in_crate: &str, moved: &mut Moved) -> Result<Vec<Stri
     let mut said: Vec<String> = stale
         .map(|number| format!("{}: no longer applies", programs[number].cited()))
         .collect();
-    let groups = groups::grouped(&clashes);
     let before = edits::edits_of(root, in_crate)?;
-    for edit in &before {
-        files::remove(root, edit)?;
-    }
-    for (number, group) in (1..).zip(&groups) {
+    let mut after = Vec::new();
+    for (number, group) in (1..).zip(groups::grouped(&clashes)) {
         let label = format!("wrong_{number}");
         let group: Vec<&WrongProgram> = group.iter().map(|at| &programs[*at]).collect();
         let path = edits_folder(in_crate).join(format!("{label}.edit"));
-        files::write(root, &path, &edits::text_of(in_crate, &group))?;
-        group.iter().for_each(|program| moved.note(program, &label));
+        after.push((path, edits::text_of(in_crate, &group)));
+        group.iter().for_each(|program| now.note(program, &label));
     }
-    let (count, were, are) = (programs.len(), before.len(), groups.len());
+    let (count, were, are) = (programs.len(), before.len(), after.len());
     said.push(format!(
         "{in_crate}: {count} wrong programs, {were} edits are now {are}"
     ));
-    Ok(said)
+    Ok(Edits {
+        said,
+        before,
+        after,
+    })
 }
 
 #[cfg(test)]
@@ -94,6 +132,9 @@ mod tests {
     use crate::sample::Sample;
 
     const EDITS: &str = "crates/c/must-fail";
+
+    const PAPER: &str =
+        "| Function | Wrong |\n|---|---|\n| `c::h` | four (`other`): 0 |\n\n`more` and `wrong_1`\n";
 
     fn program(name: &str, what: &str, old: &str) -> String {
         format!("# {name}: {what}; differs where 0\nold: {old}\nnew: 0\n")
@@ -104,7 +145,7 @@ mod tests {
         Sample::new(&[
             (
                 "crates/c/src/lib.rt",
-                "fn f() { a + 1 }\nfn g() { b + 2 }\nfn h() { c + 3 }\n",
+                "fn f() { a + 1 }\nfn g() { b + 2 }\npub fn h() { c + 3 }\n",
             ),
             (
                 &format!("{EDITS}/wrong_1.edit"),
@@ -118,7 +159,7 @@ mod tests {
                 &format!("{EDITS}/other.edit"),
                 &format!("file: src/lib.rt\n{}", program("h", "four", "c + 3")),
             ),
-            ("docs/A.md", "| `c::h` | `other` |\n`more` and `wrong_1`\n"),
+            ("docs/A.md", PAPER),
         ])
     }
 
@@ -143,7 +184,7 @@ mod tests {
         assert!(!sample.root().join(EDITS).join("more.edit").exists());
         assert_eq!(
             sample.read("docs/A.md"),
-            "| `c::h` | `wrong_1` |\n`wrong_2` and `wrong_1`\n"
+            PAPER.replace("other", "wrong_1").replace("more", "wrong_2")
         );
         assert_eq!(
             pack(sample.root(), &["c"]).unwrap(),
@@ -171,6 +212,23 @@ mod tests {
             sample().with(&[("crates/c/must-fail/x.edit", "file: src/lib.rt\n# f: five\n")]);
         assert!(pack(sample.root(), &["c"]).is_err_and(|error| error.ends_with("changes nothing")));
         assert!(sample.root().join(EDITS).join("more.edit").exists());
+    }
+
+    #[test]
+    fn the_edits_of_this_repository_are_packed() {
+        let root = Path::new(env!("CARGO_MANIFEST_DIR")).join("../..");
+        let (mut now, mut read) = (Packed::default(), 0);
+        for in_crate in files::crate_names(&root).unwrap() {
+            let edits = packed(&root, &in_crate, &mut now).unwrap();
+            assert_eq!(edits.before.len(), edits.after.len(), "{in_crate}");
+            for (edit, text) in edits.after {
+                assert!(edits.before.contains(&edit), "{}", edit.display());
+                assert_eq!(files::read(&root, &edit).unwrap(), text);
+                read += 1;
+            }
+        }
+        assert!(read > 20);
+        assert_eq!(papers_of(&root, &now).unwrap(), []);
     }
 
     #[test]

@@ -35,7 +35,7 @@ pub fn objections(repository: &Repository, function: &Function) -> Vec<String> {
 
 #[cfg(test)]
 mod tests {
-    use super::super::tests::{SOURCE, edit, objections};
+    use super::super::tests::{PROMISES, SOURCE, edit, objections};
 
     const F: &str = "crates/c/src/lib.rt:2: f: ";
     const LIB: &str = "crates/c/src/lib.rt";
@@ -66,16 +66,20 @@ mod tests {
 
     #[test]
     fn a_function_that_is_not_promised_is_objected_to() {
-        let promises = "| Function | Does |\n|---|---|\n";
+        let (intro, _) = PROMISES.split_once("| `c::f`").unwrap();
         let wanted = format!("{F}docs/PROMISES.md does not list `c::f`");
-        assert_eq!(objections(&[("docs/PROMISES.md", promises)]), [wanted]);
+        assert_eq!(objections(&[("docs/PROMISES.md", intro)]), [wanted]);
     }
 
     #[test]
     fn fewer_than_two_wrong_programs_are_objected_to() {
         let of = "wrong programs, of its own and of the private functions it calls";
         let second = "crates/c/must-fail/wrong_2.edit";
-        assert_eq!(objections(&[(second, "")]), [format!("{F}has 1 {of}")]);
+        let of_one = PROMISES.replace("2 wrong", "1 wrong");
+        assert_eq!(
+            objections(&[(second, ""), ("docs/PROMISES.md", &of_one)]),
+            [format!("{F}has 1 {of}")]
+        );
         let helper = format!("{SOURCE}fn g() {{ 9 }}\n");
         let edits = [(second, &edit("g", "9", "8")[..])];
         assert_eq!(

@@ -44,9 +44,9 @@ pub fn of_another(repository: &Repository) -> Result<Vec<String>> {
             ));
             continue;
         };
-        let read = reads_any(function, &program.constants(&repository.root)?);
         for change in &program.changes {
-            if !read && !changes(program, change, function) {
+            let constants = program.constants_of(&repository.root, change)?;
+            if !reads_any(function, &constants) && !changes(program, change, function) {
                 found.push(format!("{}: changes something else", program.cited()));
             }
         }
@@ -77,14 +77,18 @@ pub fn meeting(repository: &Repository) -> Result<Vec<String>> {
 
 #[cfg(test)]
 mod tests {
-    use super::super::tests::{SOURCE, edit, objections};
+    use super::super::tests::{PROMISES, SOURCE, edit, objections};
 
     const LIB: &str = "crates/c/src/lib.rt";
+    const PAPER: &str = "docs/PROMISES.md";
     const THIRD: &str = "crates/c/must-fail/wrong_3.edit";
 
     fn with_program(text: &str) -> Vec<String> {
         let source = format!("{SOURCE}fn g() {{\n    9\n}}\nfn h() {{\n    ONE\n}}\n");
-        objections(&[(LIB, &source), (THIRD, text)])
+        let count = 2 + text.matches("# ").count();
+        let paper = PROMISES.replace("2 wrong", &format!("{count} wrong"));
+        let paper = paper.replace("2 edits", "3 edits");
+        objections(&[(LIB, &source), (THIRD, text), (PAPER, &paper)])
     }
 
     #[test]
@@ -120,6 +124,11 @@ mod tests {
         assert!(with_program(&edit("f", "ONE: u8 = 1", "ONE: u8 = 2")).is_empty());
         let objected = with_program(&edit("g", "ONE: u8 = 1", "ONE: u8 = 2"));
         assert_eq!(objected, ["c/wrong_3: g: wrong: changes something else"]);
+        let constant_and_another = edit("f", "ONE: u8 = 1", "ONE: u8 = 2") + "old: 9\nnew: 8\n";
+        assert_eq!(
+            with_program(&constant_and_another),
+            ["c/wrong_3: f: wrong: changes something else"]
+        );
     }
 
     #[test]

@@ -1,6 +1,7 @@
 //! The functions that docs/PROMISES.md lists.
 
 use super::repository::Repository;
+use crate::citations;
 use crate::files::Result;
 use std::collections::BTreeSet;
 
@@ -8,21 +9,10 @@ pub const PAPER: &str = "docs/PROMISES.md";
 
 /// The functions of the tables headed 'Function', with the lines where they stand.
 pub fn promised(text: &str) -> Vec<(usize, String)> {
-    let (mut found, mut in_table) = (Vec::new(), false);
-    for (number, line) in (1..).zip(text.lines()) {
-        let first = line
-            .strip_prefix('|')
-            .map(|row| row.split('|').next().unwrap_or_default().trim());
-        match first {
-            None => in_table = false,
-            Some("Function") => in_table = true,
-            Some(cell) if in_table && cell.contains(|c| !"-: ".contains(c)) => {
-                found.push((number, cell.trim_matches('`').to_string()));
-            }
-            Some(_) => {}
-        }
-    }
-    found
+    let rows = citations::rows(text).into_iter();
+    rows.filter(|row| row.head == "Function" && !row.first.is_empty())
+        .map(|row| (row.line, row.first.to_string()))
+        .collect()
 }
 
 /// The promises of what is no public function, and those made twice.
@@ -45,7 +35,7 @@ pub fn of_nothing(repository: &Repository) -> Result<Vec<String>> {
 
 #[cfg(test)]
 mod tests {
-    use super::super::tests::objections;
+    use super::super::tests::{PROMISES, objections};
     use super::*;
 
     #[test]
@@ -60,15 +50,14 @@ mod tests {
 
     #[test]
     fn a_promise_of_nothing_and_one_made_twice_are_objected_to() {
-        let head = "| Function | Does |\n|---|---|\n| `c::f` | adds |\n";
-        let with = |row: &str| objections(&[(PAPER, &format!("{head}{row}\n"))]);
+        let with = |row: &str| objections(&[(PAPER, &format!("{PROMISES}{row}\n"))]);
         assert_eq!(
             with("| `c::g` | |"),
-            ["docs/PROMISES.md:4: `c::g` is no public function"]
+            ["docs/PROMISES.md:6: `c::g` is no public function"]
         );
         assert_eq!(
             with("| `c::f` | |"),
-            ["docs/PROMISES.md:4: `c::f` is listed twice"]
+            ["docs/PROMISES.md:6: `c::f` is listed twice"]
         );
         assert!(with("\n| `c::g` | in no table of functions |").is_empty());
     }

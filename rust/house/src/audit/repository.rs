@@ -11,7 +11,9 @@ pub struct Repository {
     /// The crates by name, with their functions.
     pub crates: Vec<(String, Vec<Function>)>,
     pub programs: Vec<WrongProgram>,
-    /// The functions that docs/PROMISES.md lists, with the lines where they stand.
+    /// The text of docs/PROMISES.md.
+    pub paper: String,
+    /// The functions that it lists, with the lines where they stand.
     pub promised: Vec<(usize, String)>,
 }
 
@@ -22,12 +24,13 @@ impl Repository {
             let functions = sources::functions(root, &name)?;
             crates.push((name, functions));
         }
-        let promised = promises::promised(&files::read(root, Path::new(promises::PAPER))?);
+        let paper = files::read(root, Path::new(promises::PAPER))?;
         Ok(Repository {
             root: root.to_path_buf(),
             crates,
             programs: edits::wrong_programs(root)?,
-            promised,
+            promised: promises::promised(&paper),
+            paper,
         })
     }
 

@@ -1,22 +1,24 @@
 //! The constants that a wrong program changes. They hold for every function that reads them, not for its own alone.
 
-use super::WrongProgram;
+use super::{Change, WrongProgram};
 use crate::files::{self, Result};
 use crate::scan::{self, Token};
 use std::collections::BTreeSet;
 use std::path::Path;
 
 impl WrongProgram {
+    /// The constants whose lines one of its changes touches.
+    pub fn constants_of(&self, root: &Path, change: &Change) -> Result<BTreeSet<String>> {
+        let text = files::read(root, &self.path(&change.file))?;
+        let lines = lines_around(&text, &change.old).lines();
+        Ok(lines.filter_map(constant_of).collect())
+    }
+
     /// The constants whose lines it changes.
     pub fn constants(&self, root: &Path) -> Result<BTreeSet<String>> {
         let mut found = BTreeSet::new();
         for change in &self.changes {
-            let text = files::read(root, &self.path(&change.file))?;
-            found.extend(
-                lines_around(&text, &change.old)
-                    .lines()
-                    .filter_map(constant_of),
-            );
+            found.extend(self.constants_of(root, change)?);
         }
         Ok(found)
     }

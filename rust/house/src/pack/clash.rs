@@ -55,8 +55,15 @@ impl<'a> Clashes<'a> {
         })
     }
 
-    /// Whether two wrong programs must not share an edit, for what the first does to the second.
-    fn harms(&self, one: usize, other: usize) -> bool {
+    /// Whether the first changes a constant that the second's function reads.
+    fn reaches(&self, one: usize, other: usize) -> bool {
+        let body = &self.grounds[other].body;
+        let mut constants = self.grounds[one].constants.iter();
+        constants.any(|constant| scan::has_word(body, constant))
+    }
+
+    /// Whether the second's proof may rest on what the first changes, for all that can be said file by file.
+    fn may_harm(&self, one: usize, other: usize) -> bool {
         let (first, second) = (&self.programs[one], &self.programs[other]);
         let rests_on = &self.grounds[other].rests_on;
         let specs = first
@@ -65,19 +72,19 @@ impl<'a> Clashes<'a> {
             .any(|file| file.starts_with("specs/") && rests_on.contains(file));
         let law =
             first.is_law() && first.proof() != second.proof() && rests_on.contains(&first.proof());
-        let constant = || {
-            let body = &self.grounds[other].body;
-            self.grounds[one]
-                .constants
-                .iter()
-                .any(|constant| scan::has_word(body, constant))
-        };
-        first.name == second.name || specs || law || constant()
+        specs || law
     }
 
-    /// Whether two wrong programs must not share an edit.
+    /// Whether two wrong programs must never share an edit.
+    pub fn collide(&self, one: usize, other: usize) -> bool {
+        let same = self.programs[one].name == self.programs[other].name;
+        one != other && (same || self.reaches(one, other) || self.reaches(other, one))
+    }
+
+    /// Whether two wrong programs are not put into one edit.
     pub fn meet(&self, one: usize, other: usize) -> bool {
-        one != other && (self.harms(one, other) || self.harms(other, one))
+        let harm = || self.may_harm(one, other) || self.may_harm(other, one);
+        one != other && (self.collide(one, other) || harm())
     }
 
     /// Whether all texts of some wrong programs can be replaced, one after the other.
@@ -108,8 +115,8 @@ mod tests {
         file: specs/A.antt\n# Laws.a: 4\nold: 1\nnew: 2\nfile: specs/B.antt\n# More.a: 5\nold: 1\nnew: 2\n\
         # More.b: 6\nold: 3\nnew: 4\n";
 
-    /// The pairs that meet, over seven wrong programs.
-    fn meeting() -> Vec<(usize, usize)> {
+    /// The pairs that collide and those that meet, over seven wrong programs.
+    fn pairs() -> [Vec<(usize, usize)>; 2] {
         let sample = Sample::new(&[
             ("crates/c/src/lib.rt", SOURCE),
             ("crates/c/specs/A.antt", "x = 1\n"),
@@ -124,9 +131,11 @@ mod tests {
         let programs = edits::programs_of(sample.root(), "c").unwrap();
         let clashes = Clashes::read(sample.root(), "c", &programs).unwrap();
         let pairs = (0..7).flat_map(|one| (one + 1..7).map(move |other| (one, other)));
-        pairs
-            .filter(|(one, other)| clashes.meet(*one, *other))
-            .collect()
+        let (collide, meet) = (pairs.clone(), pairs);
+        [
+            collide.filter(|(a, b)| clashes.collide(*a, *b)).collect(),
+            meet.filter(|(a, b)| clashes.meet(*a, *b)).collect(),
+        ]
     }
 
     #[test]
@@ -135,15 +144,11 @@ mod tests {
         let constant_read = [(0, 3), (2, 3)];
         let definition_rested_on = [(0, 4), (1, 4), (2, 4), (3, 4)];
         let law_rested_on = [(4, 5), (4, 6)];
-        let mut wanted = [
-            &one_function[..],
-            &constant_read,
-            &definition_rested_on,
-            &law_rested_on,
-        ]
-        .concat();
+        let mut never = [&one_function[..], &constant_read].concat();
+        never.sort();
+        let mut wanted = [&never[..], &definition_rested_on, &law_rested_on].concat();
         wanted.sort();
-        assert_eq!(meeting(), wanted);
+        assert_eq!(pairs(), [never, wanted]);
     }
 
     #[test]

@@ -4,11 +4,24 @@ use super::clash::Clashes;
 use super::packed_number;
 use std::cmp::Reverse;
 
-/// Whether a wrong program may join a group.
-fn fits(clashes: &Clashes, number: usize, group: &[usize]) -> bool {
+/// Whether the texts of a wrong program can be replaced beside those of a group.
+fn applies(clashes: &Clashes, number: usize, group: &[usize]) -> bool {
     let mut together = [group, &[number]].concat();
     together.sort();
-    !group.iter().any(|other| clashes.meet(number, *other)) && clashes.apply(&together)
+    clashes.apply(&together)
+}
+
+/// Whether a wrong program may stay in a group of an earlier run. What rests on what is not asked: each of the group
+/// was tried there, and the gate asks that each is refused by its own proof.
+fn stays(clashes: &Clashes, number: usize, group: &[usize]) -> bool {
+    let mut others = group.iter();
+    !others.any(|other| clashes.collide(number, *other)) && applies(clashes, number, group)
+}
+
+/// Whether a wrong program may join a group.
+fn fits(clashes: &Clashes, number: usize, group: &[usize]) -> bool {
+    let mut others = group.iter();
+    !others.any(|other| clashes.meet(number, *other)) && applies(clashes, number, group)
 }
 
 /// The groups, with the labels of an earlier run first and in their order.
@@ -22,7 +35,7 @@ pub fn grouped(clashes: &Clashes) -> Vec<Vec<usize>> {
     let mut left = Vec::new();
     for number in numbers.clone() {
         let own = label_of(number).and_then(|label| packed.binary_search(&label).ok());
-        match own.filter(|at| fits(clashes, number, &groups[*at])) {
+        match own.filter(|at| stays(clashes, number, &groups[*at])) {
             Some(at) => groups[at].push(number),
             None => left.push(number),
         }
@@ -98,5 +111,29 @@ mod tests {
             ("x", &[("h", "d"), ("f", "e")]),
         ]);
         assert_eq!(found, [vec!["f", "g", "h"], vec!["f"], vec!["f"]]);
+    }
+
+    #[test]
+    fn statements_of_one_file_stay_together_but_a_new_one_does_not_join_them() {
+        let statement = |law: &str, old: &str| format!("# Laws.{law}: w\nold: {old}\nnew: 0\n");
+        let first = statement("a", "x = 1") + &statement("b", "y = 2");
+        let sample = Sample::new(&[
+            ("crates/c/specs/A.antt", "x = 1\ny = 2\nz = 3\n"),
+            (
+                "crates/c/proofs/Laws.antt",
+                "use Rattle.c.specs.A.{x; y; z};\n",
+            ),
+            (
+                "crates/c/must-fail/wrong_1.edit",
+                &format!("file: specs/A.antt\n{first}"),
+            ),
+            (
+                "crates/c/must-fail/new.edit",
+                &format!("file: specs/A.antt\n{}", statement("c", "z = 3")),
+            ),
+        ]);
+        let programs = edits::programs_of(sample.root(), "c").unwrap();
+        let clashes = Clashes::read(sample.root(), "c", &programs).unwrap();
+        assert_eq!(grouped(&clashes), [vec![1, 2], vec![0]]);
     }
 }

@@ -1,60 +1,30 @@
 //! Sets right the labels of edits that the papers cite.
 
 use super::packed_number;
+use crate::citations::{self, Citation, Owners};
 use crate::edits::WrongProgram;
-use crate::scan::in_word;
-use std::collections::BTreeMap;
 
-/// Where a wrong program went.
-struct Went {
-    in_crate: String,
-    function: String,
-    label: String,
-}
-
-/// Where the wrong programs of each label went.
+/// The wrong programs that were packed, each with the label of the edit that it stands in now.
 #[derive(Default)]
-pub struct Moved {
-    by_label: BTreeMap<String, Vec<Went>>,
-}
+pub struct Packed(Vec<(WrongProgram, String)>);
 
-impl Moved {
+impl Packed {
     /// Notes the label of the edit that a wrong program stands in now.
     pub fn note(&mut self, program: &WrongProgram, label: &str) {
-        if program.label != label {
-            let (in_crate, function) = (program.in_crate.clone(), program.function().to_string());
-            let went = Went {
-                in_crate,
-                function,
-                label: label.to_string(),
-            };
-            self.by_label
-                .entry(program.label.clone())
-                .or_default()
-                .push(went);
-        }
+        self.0.push((program.clone(), label.to_string()));
     }
 
     /// A paper's text with its labels set right.
-    pub fn set_right(&self, text: &str, is_crate: impl Fn(&str) -> bool) -> String {
-        let lines: Vec<String> = text
-            .split('\n')
-            .map(|line| self.line(line, &is_crate))
-            .collect();
-        lines.join("\n")
-    }
-
-    /// In a table's row the function is named first. A method's row begins with its type, an exported function's with
-    /// its name alone: it may be of any crate.
-    fn line(&self, line: &str, is_crate: &impl Fn(&str) -> bool) -> String {
-        let (in_crate, function) = row_of(line);
-        let in_crate = in_crate.filter(|name| is_crate(name));
-        let (mut right, mut rest) = (String::new(), line);
+    pub fn set_right(&self, text: &str, owners: &Owners) -> String {
+        let rows = citations::rows(text);
+        let cited: Vec<Citation> = rows.iter().flat_map(citations::cited_in).collect();
+        let (mut right, mut rest) = (String::new(), text);
         while let Some(at) = rest.find('`') {
             right.push_str(&rest[..=at]);
             rest = &rest[at + 1..];
-            if let Some(label) = label_at(rest) {
-                right.push_str(self.now(label, in_crate, function));
+            if let Some(label) = citations::label_at(rest) {
+                let citation = cited.iter().find(|one| std::ptr::eq(one.label, label));
+                right.push_str(self.now(label, citation, owners));
                 right.push('`');
                 rest = &rest[label.len() + 1..];
             }
@@ -62,107 +32,96 @@ impl Moved {
         right + rest
     }
 
-    /// The label that a cited one is now: where the row's function went, else, for a label that no run gave, where the
-    /// first of its wrong programs went.
-    fn now<'a>(
-        &'a self,
-        label: &'a str,
-        in_crate: Option<&str>,
-        function: Option<&str>,
-    ) -> &'a str {
-        let Some(went) = self.by_label.get(label) else {
-            return label;
-        };
-        let is_own = |one: &&Went| {
-            Some(one.function.as_str()) == function && in_crate.is_none_or(|of| of == one.in_crate)
-        };
-        match went.iter().find(is_own) {
-            Some(own) => &own.label,
-            None if packed_number(label).is_some() => label,
-            None => &went[0].label,
+    /// The label that a cited one is now: where the cited wrong program went, the one of that label, or else the only
+    /// one, whatever the label that it was cited by; for any other label that no run gave, where the first of its wrong
+    /// programs went.
+    fn now<'a>(&'a self, label: &'a str, citation: Option<&Citation>, owners: &Owners) -> &'a str {
+        let is_cited = |one| citation.is_some_and(|citation| citation.is_of(one, owners));
+        let cited: Vec<_> = self.0.iter().filter(|(one, _)| is_cited(one)).collect();
+        let of_label = |(one, _): &&(WrongProgram, String)| one.label == label;
+        match (cited.iter().copied().find(of_label), &cited[..]) {
+            (Some((_, now)), _) | (None, [(_, now)]) => now,
+            _ if packed_number(label).is_some() => label,
+            _ => self.0.iter().find(of_label).map_or(label, |(_, now)| now),
         }
     }
-}
-
-/// The label between backquotes that a text begins with, behind the first of them.
-fn label_at(text: &str) -> Option<&str> {
-    let (label, _) = text.split_once('`')?;
-    let in_label = |c: char| c.is_ascii_lowercase() || c.is_ascii_digit() || c == '_';
-    (!label.is_empty() && label.chars().all(in_label)).then_some(label)
-}
-
-/// The first step and the last of the path `a::b::c` that begins a table's row; of one step the last alone.
-fn row_of(line: &str) -> (Option<&str>, Option<&str>) {
-    let Some((path, _)) = line.strip_prefix("| `").and_then(|row| row.split_once('`')) else {
-        return (None, None);
-    };
-    let steps: Vec<&str> = path.split("::").collect();
-    if steps
-        .iter()
-        .any(|step| step.is_empty() || step.contains(|c| !in_word(c)))
-    {
-        return (None, None);
-    }
-    (
-        if steps.len() > 1 {
-            Some(steps[0])
-        } else {
-            None
-        },
-        steps.last().copied(),
-    )
 }
 
 #[cfg(test)]
 mod tests {
     use super::*;
+    use crate::sample::Sample;
+    use crate::sources;
 
-    fn moved() -> Moved {
-        let mut moved = Moved::default();
+    fn packed() -> Packed {
+        let mut packed = Packed::default();
         let notes = [
             ("c", "m::f", "old", "wrong_1"),
             ("d", "f", "old", "wrong_2"),
             ("d", "T::g", "wrong_3", "wrong_4"),
+            ("d", "h", "wrong_3", "wrong_5"),
+            ("d", "k", "wrong_3", "wrong_3"),
+            ("theorems", "Laws.f", "wrong_3", "wrong_6"),
         ];
         for (in_crate, name, from, to) in notes {
             let program = WrongProgram {
                 in_crate: in_crate.to_string(),
                 label: from.to_string(),
                 name: name.to_string(),
-                what: String::new(),
-                differs: String::new(),
+                what: "w".to_string(),
+                differs: "i".to_string(),
                 changes: Vec::new(),
             };
-            moved.note(&program, to);
+            packed.note(&program, to);
         }
-        moved
+        packed
+    }
+
+    fn right(text: &str) -> String {
+        let sample = Sample::new(&[
+            ("crates/c/src/lib.rt", "pub mod m;\n"),
+            ("crates/c/src/m.rt", "pub fn f() {}\n"),
+            (
+                "crates/d/src/lib.rt",
+                "pub fn f() {}\nimpl T {\n    pub fn g() {}\n}\nfn h() {}\n",
+            ),
+        ]);
+        let functions = ["c", "d"].map(|name| sources::functions(sample.root(), name).unwrap());
+        packed().set_right(text, &Owners::of(functions.iter().flatten()))
     }
 
     #[test]
-    fn rows_begin_with_a_path() {
-        assert_eq!(row_of("| `a::b::c` | d |"), (Some("a"), Some("c")));
-        assert_eq!(row_of("| `las_f` |"), (None, Some("las_f")));
-        for line in ["`a::b`", "| a |", "| `a b` |", "| `a:b` |", "|`a`|"] {
-            assert_eq!(row_of(line), (None, None), "{line}");
+    fn a_citation_follows_its_wrong_program() {
+        let functions = |row: &str| format!("| Function | |\n|---|---|\n{row}\n\n`wrong_3`");
+        for (row, wanted) in [
+            ("| `c::m::f` | `x` | w (`old`): i |", "w (`wrong_1`): i"),
+            ("| `d::f` | `x` | w (`old`): i |", "w (`wrong_2`): i"),
+            ("| `T::g` | `x` | w (`wrong_3`): i |", "w (`wrong_4`): i"),
+            (
+                "| `d::f` | v (`wrong_3`): i<br>in `h`: w (`wrong_3`): i |",
+                "v (`wrong_3`): i<br>in `h`: w (`wrong_5`): i",
+            ),
+            ("| `d::f` | in `h`: w (`wrong_3`): j |", "w (`wrong_3`): j"),
+            (
+                "| `c::m::f` | in `h`: w (`wrong_3`): i |",
+                "w (`wrong_3`): i",
+            ),
+        ] {
+            let found = right(&functions(row));
+            assert!(found.contains(wanted), "{found}");
+            assert!(found.ends_with("\n\n`wrong_3`"));
         }
+        assert_eq!(
+            right("| Demand | |\n|---|---|\n| 1 | w (`wrong_3`): i |"),
+            "| Demand | |\n|---|---|\n| 1 | w (`wrong_6`): i |"
+        );
     }
 
     #[test]
-    fn a_row_follows_its_function_and_prose_the_first() {
-        let right = |line: &str| moved().set_right(line, |name| name == "c" || name == "d");
+    fn any_other_label_that_no_run_gave_follows_the_first() {
         assert_eq!(
-            right("| `c::m::f` | `old`, `x` |"),
-            "| `c::m::f` | `wrong_1`, `x` |"
+            right("`wrong_3` and ``old` ` and `older`"),
+            "`wrong_3` and ``wrong_1` ` and `older`"
         );
-        assert_eq!(
-            right("| `d::f` | `old` |\n`old`"),
-            "| `d::f` | `wrong_2` |\n`wrong_1`"
-        );
-        assert_eq!(right("| `T::g` | `wrong_3` |"), "| `T::g` | `wrong_4` |");
-        assert_eq!(
-            right("`wrong_3` and ``old` `"),
-            "`wrong_3` and ``wrong_1` `"
-        );
-        assert_eq!(right("| `c::g` | `wrong_3` |"), "| `c::g` | `wrong_3` |");
     }
 }
