@@ -14,7 +14,7 @@ use Rattle.lasfile.specs.HeaderFields.{headerSize, pointOffset, recordCount, re
 use Rattle.lasfile.specs.Passed.{Passed}
 use Rattle.lasfile.proofs.Passed.{records-end}
 use Rattle.sheet.specs.Keeping.{keepsPoint}
-use Rattle.publicpart.specs.Public.{Public, carriedOf, contents, restrict, publicOf, keptRecord}
+use Rattle.publicpart.specs.Public.{Public, carriedOf, contents, restrict, publicOf, sheetKeeps}
 use Rattle.publicpart.specs.Render.{newOffset, totals}
 use Rattle.publicpart.proofs.PublicLaws.{public-is}
 
@@ -23,7 +23,7 @@ unfolding totals restrict newOffset
 restrict-shorter sheet p =
     omega (
       arith,
-      total-kept (writtenLength 2) (keptRecord sheet) (p .records),
+      total-kept (writtenLength 2) (sheetKeeps sheet) (p .records),
       mul-le-mul-right (p .carried .recordLength) (length-kept (keepsPoint sheet (p .carried .format)) (p .points)),
     )
 

@@ -12,7 +12,7 @@ use Rattle.scaling.specs.Scaling.{scalingIn, scalingOf}
 use Rattle.scaling.proofs.ScalingLaws.{scaling-in}
 use Rattle.lasfile.specs.HeaderFields.{headerSize, pointOffset, recordCount, format, recordLength, pointCount}
 use Rattle.sheet.specs.Keeping.{keepsPoint}
-use Rattle.publicpart.specs.Public.{Public, carriedOf, contents, keptRecord, restrict, publicOf}
+use Rattle.publicpart.specs.Public.{Public, carriedOf, contents, sheetKeeps, restrict, publicOf}
 
 -- ---- the carried fields
 
@@ -79,7 +79,7 @@ restrict-restrict sheet p = simp kept-kept
 pub restrict-comm : (s t : Bytes) (p : Public) → restrict s (restrict t p) ≡ restrict t (restrict s p)
 unfolding restrict
 restrict-comm s t p =
-    rw (kept-comm (keptRecord s) (keptRecord t) (p .records), kept-comm (keepsPoint s (p .carried .format)) (keepsPoint t (p .carried .format)) (p .points))
+    rw (kept-comm (sheetKeeps s) (sheetKeeps t) (p .records), kept-comm (keepsPoint s (p .carried .format)) (keepsPoint t (p .carried .format)) (p .points))
 
 -- ---- the public part of a file
 
@@ -92,7 +92,7 @@ module _ (sheet s : Bytes) where
   unfolding publicOf restrict contents
   public-carried = refl
 
-  pub public-records : publicOf sheet s .records ≡ kept (keptRecord sheet) (contents s .records)
+  pub public-records : publicOf sheet s .records ≡ kept (sheetKeeps sheet) (contents s .records)
   unfolding publicOf restrict
   public-records = refl
 

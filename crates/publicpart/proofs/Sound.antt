@@ -22,7 +22,7 @@ use Rattle.lasfile.proofs.header.FieldLaws.{offset-low, records-low, length-low
 use Rattle.lasfile.specs.Passed.{Passed}
 use Rattle.lasfile.proofs.Passed.{records-end}
 use Rattle.sheet.specs.Keeping.{keepsPoint}
-use Rattle.publicpart.specs.Public.{Carried, Public, carriedOf, contents, restrict, publicOf, keptRecord}
+use Rattle.publicpart.specs.Public.{Carried, Public, carriedOf, contents, restrict, publicOf, sheetKeeps}
 use Rattle.publicpart.specs.Render.{newOffset}
 use Rattle.publicpart.proofs.PublicLaws.{public-is}
 
@@ -83,9 +83,9 @@ unfolding restrict newOffset
 sound-restrict sheet p h =
     record {
       carried = h .carried;
-      records = All-kept (SoundRecord 2) (keptRecord sheet) (p .records) (h .records);
-      recordCount = omega (arith, length-kept (keptRecord sheet) (p .records), h .recordCount);
-      offset = omega (arith, total-kept (writtenLength 2) (keptRecord sheet) (p .records), h .offset);
+      records = All-kept (SoundRecord 2) (sheetKeeps sheet) (p .records) (h .records);
+      recordCount = omega (arith, length-kept (sheetKeeps sheet) (p .records), h .recordCount);
+      offset = omega (arith, total-kept (writtenLength 2) (sheetKeeps sheet) (p .records), h .offset);
       points = All-kept (λ b. length b ≡ p .carried .recordLength) (keepsPoint sheet (p .carried .format)) (p .points) (h .points);
       pointCount = omega (arith, length-kept (keepsPoint sheet (p .carried .format)) (p .points), h .pointCount);
     }

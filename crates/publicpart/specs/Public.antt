@@ -51,15 +51,16 @@ contents s =
       points = pieces (pointCount s) (recordLength s) (drop (pointOffset s) s);
     }
 
-abbrev pub keptRecord : Bytes → Record → Bool
-keptRecord sheet r = keepsRecord sheet (r .user) (r .id)
+-- whether a sheet keeps a record, by its cut user ID and its record ID
+abbrev pub sheetKeeps : Bytes → Record → Bool
+sheetKeeps sheet r = keepsRecord sheet (r .user) (r .id)
 
 -- what a sheet leaves of it
 unfoldable pub restrict : Bytes → Public → Public
 restrict sheet p =
     record {
       carried = p .carried;
-      records = kept (keptRecord sheet) (p .records);
+      records = kept (sheetKeeps sheet) (p .records);
       points = kept (keepsPoint sheet (p .carried .format)) (p .points);
     }
 

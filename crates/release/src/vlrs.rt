@@ -5,7 +5,7 @@ ghost use mathlib.Core.Path.{_≡_};
 ghost use Prim.Native.Nat.{_<_, _^_};
 ghost use lib.Seq.{sets};
 ghost use Rattle.lasfile.specs.Records.{recordOf, writtenLength, recordBytes};
-ghost use Rattle.publicpart.specs.Public.{keptRecord, publicOf};
+ghost use Rattle.publicpart.specs.Public.{sheetKeeps, publicOf};
 ghost use Rattle.release.specs.KeptRecords.{measured, nameBytes, contentBytes};
 ghost use Rattle.release.specs.Assembly.{withRecords};
 use fields::copying;
@@ -31,7 +31,7 @@ pub struct KeptRecords {
 
 // Whether a sheet keeps the record.
 fn keeps(sheet: &[u8], vlr: &[u8]) -> bool
-    ensures { λ r. ⌜ r ≡ keptRecord (now (sheet .entry)) (recordOf 2 (now (vlr .entry))) ⌝ }
+    ensures { λ r. ⌜ r ≡ sheetKeeps (now (sheet .entry)) (recordOf 2 (now (vlr .entry))) ⌝ }
 {
     let id = number_at(vlr, RECORD_ID, 2) as u16;
     lookup::holds_record(sheet, slices::part_at(vlr, USER_ID, 16), id)

@@ -13,14 +13,14 @@ use Rattle.lasfile.specs.HeaderFields.{headerBlock, format, recordLength}
 use Rattle.lasfile.specs.FileChecks.{fileVerdict}
 use Rattle.sheet.specs.Sheet.{sheetVerdict}
 use Rattle.sheet.specs.Keeping.{keepsPoint}
-use Rattle.publicpart.specs.Public.{carriedOf, contents, keptRecord, publicOf}
+use Rattle.publicpart.specs.Public.{carriedOf, contents, sheetKeeps, publicOf}
 use Rattle.publicpart.specs.Release.{release}
 use Rattle.capi.specs.Answers.{releasedNumbers}
 use Rattle.theorems.specs.Terms.{Good, Accepted, OfOutput}
 
 -- the source's kept records and kept points, in order
 abbrev pub recordsKept : Bytes → Bytes → List Record
-recordsKept sheet f = kept (keptRecord sheet) (contents f .records)
+recordsKept sheet f = kept (sheetKeeps sheet) (contents f .records)
 
 abbrev pub pointsKept : Bytes → Bytes → List Bytes
 pointsKept sheet f = kept (keepsPoint sheet (format f)) (contents f .points)

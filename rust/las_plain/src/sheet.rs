@@ -170,7 +170,7 @@ mod tests {
     }
 
     #[test]
-    fn faults_of_a_line_come_in_document_01s_order() {
+    fn faults_of_a_line_come_in_the_order_of_the_specification() {
         assert_eq!(check_sheet(&[0x4B, 0x54]), Err(Refusal::LineCut));
         assert_eq!(check_sheet(&[0x4B, 0x53, 3]), Err(Refusal::UnknownKind));
         assert_eq!(check_sheet(&[0x4B, 0x53, 1, 9]), Err(Refusal::LineCut));

@@ -15,7 +15,7 @@ use Rattle.fields.proofs.StoreLaws.{sets-append}
 use Rattle.lasfile.specs.Records.{Record, recordAt, sizeOf, places, walk, recordBytes, writtenLength, recordsBytes}
 use Rattle.lasfile.proofs.vlr.RecordLaws.{walk-step, length-recordBytes}
 use Rattle.lasfile.specs.HeaderFields.{headerBlock, headerSize, recordCount}
-use Rattle.publicpart.specs.Public.{keptRecord, publicOf}
+use Rattle.publicpart.specs.Public.{sheetKeeps, publicOf}
 use Rattle.publicpart.proofs.PublicLaws.{contents-records, public-records}
 use Rattle.release.specs.declared.vlrs.KeptRecords.{KeptRecords}
 use Rattle.release.specs.KeptRecords.{measured}
@@ -34,23 +34,23 @@ Low n left = n + left * 131072 < 2 ^ 50
 
 module _ (sheet s : Bytes) where
   abbrev pub rest : ℕ → ℕ → List Record
-  rest left at = kept (keptRecord sheet) (walk 2 left at s)
+  rest left at = kept (sheetKeeps sheet) (walk 2 left at s)
 
   rest-first : (left at : ℕ) → left ≡ recordCount s → at ≡ headerSize s → rest left at ≡ publicOf sheet s .records
-  rest-first left at l a = rw (l, a) (sym (public-records sheet s ∙ ap (kept (keptRecord sheet)) (contents-records s)))
+  rest-first left at l a = rw (l, a) (sym (public-records sheet s ∙ ap (kept (sheetKeeps sheet)) (contents-records s)))
 
   -- the record at hand is kept, or passed over
-  rest-kept : (left at : ℕ) → 0 < left → keptRecord sheet (recordAt 2 s at) ≡ true
+  rest-kept : (left at : ℕ) → 0 < left → sheetKeeps sheet (recordAt 2 s at) ≡ true
       → rest left at ≡ recordAt 2 s at ∷ rest (left - 1) (at + sizeOf 2 (drop at s))
   rest-kept left at more e =
       let n : left ≡ suc (left - 1) = omega arith in
-      ap (λ (k : ℕ). rest k at) n ∙ ap (kept (keptRecord sheet)) (walk-step 2 (left - 1) at s) ∙ kept-here (keptRecord sheet) (recordAt 2 s at) _ e
+      ap (λ (k : ℕ). rest k at) n ∙ ap (kept (sheetKeeps sheet)) (walk-step 2 (left - 1) at s) ∙ kept-here (sheetKeeps sheet) (recordAt 2 s at) _ e
 
-  rest-past : (left at : ℕ) → 0 < left → keptRecord sheet (recordAt 2 s at) ≡ false
+  rest-past : (left at : ℕ) → 0 < left → sheetKeeps sheet (recordAt 2 s at) ≡ false
       → rest left at ≡ rest (left - 1) (at + sizeOf 2 (drop at s))
   rest-past left at more e =
       let n : left ≡ suc (left - 1) = omega arith in
-      ap (λ (k : ℕ). rest k at) n ∙ ap (kept (keptRecord sheet)) (walk-step 2 (left - 1) at s) ∙ kept-past (keptRecord sheet) (recordAt 2 s at) _ e
+      ap (λ (k : ℕ). rest k at) n ∙ ap (kept (sheetKeeps sheet)) (walk-step 2 (left - 1) at s) ∙ kept-past (sheetKeeps sheet) (recordAt 2 s at) _ e
 
   rest-none : (left at : ℕ) → left ≤ 0 → rest left at ≡ []
   unfolding kept walk places
@@ -78,7 +78,7 @@ measuring-begins sheet s left at l a =
     }
 
 module _ (sheet s : Bytes) (bytes : AllBytes s) (left at count size : ℕ) (more : 0 < left) (small : sizeOf 2 (drop at s) < 2 ^ 17) (m : Measuring sheet s left at count size) where
-  pub measuring-kept : keptRecord sheet (recordAt 2 s at) ≡ true
+  pub measuring-kept : sheetKeeps sheet (recordAt 2 s at) ≡ true
       → Measuring sheet s (left - 1) (at + sizeOf 2 (drop at s)) (count + 1) (size + writtenLength 2 (recordAt 2 s at))
   unfolding total
   measuring-kept e =
@@ -92,7 +92,7 @@ module _ (sheet s : Bytes) (bytes : AllBytes s) (left at count size : ℕ) (more
         low = omega (arith, m .low, short);
       }
 
-  pub measuring-past : keptRecord sheet (recordAt 2 s at) ≡ false → Measuring sheet s (left - 1) (at + sizeOf 2 (drop at s)) count size
+  pub measuring-past : sheetKeeps sheet (recordAt 2 s at) ≡ false → Measuring sheet s (left - 1) (at + sizeOf 2 (drop at s)) count size
   measuring-past e =
       let later = rest-past sheet s left at more e in
       record {
@@ -132,7 +132,7 @@ copying-begins sheet s out left at l a =
 
 module _ (sheet s out₀ out : Bytes) (bytes : AllBytes s) (left at to : ℕ) (more : 0 < left) (small : sizeOf 2 (drop at s) < 2 ^ 17) (c : Copying sheet s out₀ out left at to) where
   pub copying-kept : (next : Bytes) → next ≡ sets out to (recordBytes 2 (recordAt 2 s at)) → length next ≡ length out
-      → keptRecord sheet (recordAt 2 s at) ≡ true
+      → sheetKeeps sheet (recordAt 2 s at) ≡ true
       → Copying sheet s out₀ next (left - 1) (at + sizeOf 2 (drop at s)) (to + writtenLength 2 (recordAt 2 s at))
   unfolding recordsBytes join
   copying-kept next e l k =
@@ -149,7 +149,7 @@ module _ (sheet s out₀ out : Bytes) (bytes : AllBytes s) (left at to : ℕ) (m
         low = omega (arith, c .low, short);
       }
 
-  pub copying-past : keptRecord sheet (recordAt 2 s at) ≡ false → Copying sheet s out₀ out (left - 1) (at + sizeOf 2 (drop at s)) to
+  pub copying-past : sheetKeeps sheet (recordAt 2 s at) ≡ false → Copying sheet s out₀ out (left - 1) (at + sizeOf 2 (drop at s)) to
   copying-past k =
       record {
         whole = ap (λ (rs : List Record). sets out to (recordsBytes 2 rs)) (sym (rest-past sheet s left at more k)) ∙ c .whole;

@@ -6,7 +6,7 @@ use mathlib.Core.Logic.{⊎-elim}
 use native.Mathlib.Omega.{arith}
 use Rattle.fields.specs.Bytes.{Bytes, AllBytes}
 use Rattle.lasfile.specs.Records.{recordOf, writtenLength}
-use Rattle.publicpart.specs.Public.{keptRecord}
+use Rattle.publicpart.specs.Public.{sheetKeeps}
 use Rattle.release.proofs.vlrs.KeptLaws.{from-place, Measuring, measuring-begins, measuring-kept, measuring-past, measuring-ends}
 use Rattle.release.proofs.vlrs.measure.Statement.{statement}
 use Rattle.release.proofs.vlrs.measure.Tie as tie
@@ -48,7 +48,7 @@ loop-again c =
     let size = c .size-at .ensures in
     let small = rw (size .0) at (size .1) in
     let here = c .before .before .before .part-at .ensures ∙ from-place s (l .at) in
-    let keeps = c .before .before .keeps .ensures ∙ ap (λ (v : Bytes). keptRecord sheet (recordOf 2 v)) here in (
+    let keeps = c .before .before .keeps .ensures ∙ ap (λ (v : Bytes). sheetKeeps sheet (recordOf 2 v)) here in (
       l .inv .0,
       ⊎-elim
           (λ w.
