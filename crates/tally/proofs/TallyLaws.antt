@@ -1,16 +1,17 @@
 -- Laws of the tally, over any list of points: its count is theirs, and its bins are those that the released header has
 -- of them. Assumes nothing.
 use mathlib.Core.Path.{_≡_, refl, _∙_}
-use Prim.Native.Nat.{ℕ, _+_}
+use Prim.Native.Nat.{ℕ, _+_, _≤_}
 use native.Mathlib.Omega.{arith}
 use mathlib.Core.List.{List, [], _∷_, foldl}
-use lib.ListN.{length}
+use lib.ListN.{length, take}
 use lib.Dec.{eqb}
 use mir.Val.{boolByte}
 use Rattle.fields.specs.Lists.{kept}
 use Rattle.fields.specs.Bytes.{Bytes}
 use Rattle.publicpart.specs.Bounds.{bins}
 use Rattle.points.specs.Raw.{returnOf, storedOf}
+use Rattle.points.proofs.raw.RawLaws.{return-front, stored-of-front}
 use Rattle.publicpart.proofs.BinLaws.{length-consIf, withReturn, bins-listed}
 use Rattle.points.specs.declared.raw.Stored.{Stored}
 use Rattle.tally.specs.declared.Tally.{Tally}
@@ -22,6 +23,11 @@ use Rattle.tally.specs.Tally.{binsWith, binNumbers, noTally, tallyWith, 
 pub tallied-by : (f : ℕ) (t t′ : Tally) (n : ℕ) (q : Stored) (p : Bytes) → t′ ≡ tallyWith t n q → n ≡ returnOf f p → q ≡ storedOf p → t′ ≡ tallied f t p
 unfolding tallied
 tallied-by f t t′ n q p e g h = e ∙ rw (g, h)
+
+-- the first 20 bytes decide
+pub tallied-front : (f n : ℕ) (t : Tally) (p : Bytes) → 20 ≤ n → tallied f t (take n p) ≡ tallied f t p
+unfolding tallied
+tallied-front f n t p h = rw (return-front f n p h, stored-of-front n p h)
 
 -- ---- the count
 

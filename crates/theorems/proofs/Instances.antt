@@ -39,6 +39,7 @@ use Rattle.capi.specs.Answers.{keptNumbers}
 use Rattle.capi.specs.HeaderAnswers.{headerNumbers, noHeader}
 use Rattle.capi.specs.RecordAnswers.{recordNumbers, noRecord, geokeyNumbers}
 use Rattle.capi.specs.PointAnswers.{pointNumbers, noPoint, decodedNumbers}
+use Rattle.tally.specs.Tally.{noTally}
 use Rattle.theorems.specs.ZeroWhereAccepted.{isReleased}
 use Rattle.theorems.specs.Terms.{Good, needed, refusal, Accepted}
 use Rattle.theorems.specs.Coordinates.{X, Fits32, Times, Exact}
@@ -48,7 +49,8 @@ use Rattle.theorems.specs.ReleasedFile.{pointsKept}
 use Rattle.theorems.specs.BoundsOfKept.{Binned}
 use Rattle.theorems.specs.Demand1.{NothingChanged, ZerosBeside, EachNumber}
 use Rattle.theorems.specs.Samples.{sheet3, sheet4, sheet5, sheet6, point7, used, half, ten, file9}
-use Rattle.theorems.specs.Instances.{other9, filled, output9, OfOutput9, fields7, numbers7, oneRecord, sheetA7, sheet64, NothingChangedMet, ZerosBesideMet, EachNumberMet, ExactlyMet, ShortMet, AgainMet, RecognisedMet, CompleteMet, NeverLongerMet, BoundsOfKeptMet, SheetsMet, FilesMet, VisitsMet, RoundTripsMet, CoordinatesMet, OwnBitsMet}
+use Rattle.theorems.specs.Instances.{other9, filled, output9, OfOutput9, fields7, numbers7, oneRecord, sheetA7, sheet64, NothingChangedMet, ZerosBesideMet, EachNumberMet, ExactlyMet, ShortMet, AgainMet, RecognisedMet, CompleteMet, NeverLongerMet, BoundsOfKeptMet, SheetsMet, FilesMet, VisitsMet, RoundTripsMet, CoordinatesMet, OwnBitsMet, long7, FirstBytesMet}
+use Rattle.theorems.proofs.FirstBytes.{first-bytes}
 use Rattle.theorems.proofs.Samples.{computed}
 use Rattle.theorems.proofs.Demand1.{demand1}
 use Rattle.theorems.proofs.Demand3.{demand3}
@@ -387,6 +389,10 @@ round-trips-met =
       decode-after-encode = round-trips .decode-after-encode 0 20 (used 20) fields7 in-range7 encoded7;
       extra-stay = rw size0 at (round-trips .extra-stay 0 24 fields7 (used 24) encoded24);
     }
+
+pub first-bytes-met : FirstBytesMet
+first-bytes-met =
+    record { kept = first-bytes .kept sheet3 1 20 long7 (lit≤ tt); counted = first-bytes .counted 1 20 noTally long7 (lit≤ tt) }
 
 -- ---- coordinates
 

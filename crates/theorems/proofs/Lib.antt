@@ -8,6 +8,7 @@ pub mod ReleasedFile
 pub mod BoundsBack
 pub mod BoundsOfKept
 pub mod Files
+pub mod FirstBytes
 pub mod Samples
 pub mod points
 pub mod sheet

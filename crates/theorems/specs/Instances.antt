@@ -5,7 +5,7 @@ use mathlib.Core.Path.{_≡_}
 use Prim.Native.Nat.{ℕ, _≤_}
 use mathlib.Core.List.{[], _∷_, _++_}
 use lib.Dec.{T}
-use lib.ListN.{length, drop, replicate}
+use lib.ListN.{length, drop, replicate, take}
 use lib.IntN.{ℤ, pos, negsuc, _+ℤ_, _*ℤ_}
 use lib.Ieee.{Float, binary64, fin, le, ofInt}
 use lib.Ieee.Scale.{finite}
@@ -26,7 +26,7 @@ use Rattle.reader.specs.Steps.{stepChecks, recordPlaces, stepOf, visited}
 use Rattle.reader.specs.declared.cursor.Step.the-variants.{Refused}
 use Rattle.reader.specs.OnePoint.{pointChecks}
 use Rattle.sheet.specs.Sheet.{kind, lowest, highest, userID, recordID, lines}
-use Rattle.sheet.specs.Keeping.{keepsClass}
+use Rattle.sheet.specs.Keeping.{keepsClass, keepsPoint}
 use Rattle.publicpart.specs.Public.{publicOf}
 use Rattle.publicpart.specs.Release.{release}
 use Rattle.capi.specs.Answers.{releasedNumbers}
@@ -35,6 +35,7 @@ use Rattle.capi.specs.RecordAnswers.{noRecord}
 use Rattle.capi.specs.PointAnswers.{noPoint, givenPoint}
 use Rattle.capi.specs.declared.point.«las_point».{«las_point»}
 use Rattle.capi.specs.Interface.{lasReadHeader, lasVlrStep, lasPointAt, lasDecode, lasEncode, lasClassKept, lasRecordKept, lasGeokeyFind, lasRelease}
+use Rattle.tally.specs.Tally.{noTally, tallied}
 use Rattle.theorems.specs.Terms.{refusal, OfOutput}
 use Rattle.theorems.specs.Tables.{Given, sheetChecks, lookupChecks, releaseChecks}
 use Rattle.theorems.specs.Demand3.{Same, inLength}
@@ -242,6 +243,16 @@ pub record RoundTripsMet : Type 0 where
   pub decode-after-encode : decoded 0 20 (encoded 0 20 fields7 (used 20) .1) ≡ Fields (blank 0 fields7)
   -- of a room of 24 bytes the last four stay
   pub extra-stay : drop 20 (encoded 0 24 fields7 (used 24) .1) ≡ used 4
+
+-- a record of format 1 that begins with sample P7's bytes
+abbrev pub long7 : Bytes
+long7 = point7 2 ++ zeros 8
+
+pub record FirstBytesMet : Type 0 where
+  -- its first 20 bytes are kept as the whole of it
+  pub kept : keepsPoint sheet3 1 (take 20 long7) ≡ keepsPoint sheet3 1 long7
+  -- and counted
+  pub counted : tallied 1 noTally (take 20 long7) ≡ tallied 1 noTally long7
 
 -- an X coordinate of the file
 abbrev pub at9 : ℤ → Float

@@ -10,6 +10,7 @@ pub mod Sheets
 pub mod Files
 pub mod Visits
 pub mod RoundTrips
+pub mod FirstBytes
 pub mod ZeroWhereAccepted
 pub mod Samples
 pub mod Instances
