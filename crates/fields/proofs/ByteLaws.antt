@@ -2,13 +2,14 @@
 -- Assumes nothing.
 use mathlib.Core.Path.{_≡_, refl, sym, ap, ap₂, _∙_, subst}
 use Prim.Native.Nat.{ℕ, zero, suc, _+_, _-_, _*_, _/_, _%_, _^_, _≤_, _<_}
-use native.Mathlib.Nat.{not-suc-le-zero}
+use native.Mathlib.Nat.{not-suc-le-zero, mul-assoc, pow-succ'}
 use native.Mathlib.Omega.{arith}
 use mathlib.Core.Bool.{Bool, true, false, _&&_}
 use mathlib.Core.List.{List, [], _∷_, _++_, append-assoc}
 use lib.ListN.{length, take, drop, getD, length-append, length-take, length-drop, drop-of-length-le}
-use lib.Seq.{take-at, drop-at, drop-append-add, getD-drop, drop-drop, take-take, take-nil}
-use lib.Dec.{T, eqb, eqb→eq, eqb-refl}
+use lib.Seq.{take-all, take-at, drop-at, drop-append-add, getD-drop, drop-drop, take-take, take-nil}
+use lib.Dec.{T, eqb, eqb→eq, eqb-refl, leb}
+use borrow.Author.Tests.{leb-true, leb-false}
 use Rattle.fields.specs.Lists.{All, total}
 use Rattle.fields.specs.Bytes.{Bytes, AllBytes, part, num, bytesOf, same, join, pieces, start, Fit}
 
@@ -69,11 +70,31 @@ num-part-zero at s = refl
 pub num-part-one : (at : ℕ) (s : Bytes) → num (part at 1 s) ≡ getD s at 0
 num-part-one at s = omega (arith, num-part-suc at 0 s, num-part-zero (suc at) s)
 
+-- a number in two parts: w bytes, and the n behind them
+pub num-part-add : (at w n : ℕ) (s : Bytes) → num (part at (w + n) s) ≡ num (part at w s) + 256 ^ w * num (part (at + w) n s)
+num-part-add at zero n s =
+    let e : at + 0 ≡ at = omega arith in
+    let f : 0 + n ≡ n = omega arith in
+    rw (e, f) (omega (arith, num-part-zero at s))
+num-part-add at (suc w) n s =
+    let e : at + suc w ≡ suc at + w = omega arith in
+    let f : suc w + n ≡ suc (w + n) = omega arith in
+    let high = num (part (suc at + w) n s) in
+    let g : 256 ^ suc w * high ≡ 256 * (256 ^ w * high) = rw pow-succ' (mul-assoc 256 (256 ^ w) high) in
+    rw (e, f, g) (omega (arith, num-part-suc at (w + n) s, num-part-suc at w s, num-part-add (suc at) w n s))
+
 pub num-past : (at w : ℕ) (s : Bytes) → length s ≤ at → num (part at w s) ≡ 0
 unfolding num part
 num-past at w s h = rw (drop-of-length-le s {i = at} h, take-nil w)
 
 -- ---- parts
+
+-- what `fits_in` says of the bytes at a place
+pub fits-there : (r : Bool) (l at w : ℕ) → r ≡ leb (at + w) l → r ≡ true → at + w ≤ l
+fits-there r l at w e t = leb-true (at + w) l (sym e ∙ t)
+
+pub fits-short : (r : Bool) (l at w : ℕ) → r ≡ leb (at + w) l → r ≡ false → l < at + w
+fits-short r l at w e t = leb-false (at + w) l (sym e ∙ t)
 
 pub length-part : (at w : ℕ) (s : Bytes) → at + w ≤ length s → length (part at w s) ≡ w
 unfolding part
@@ -96,6 +117,13 @@ part-behind n at w x y h = rw (← h, drop-append-add)
 pub part-past : (at w : ℕ) (s : Bytes) → length s ≤ at → part at w s ≡ []
 unfolding part
 part-past at w s h = rw (drop-of-length-le s {i = at} h, take-nil w)
+
+-- as many bytes as there are
+pub part-short : (at w : ℕ) (s : Bytes) → length s ≤ at + w → part at (length s - at) s ≡ part at w s
+unfolding part
+part-short at w s h =
+    let all : (n : ℕ) → length s ≤ at + n → take n (drop at s) ≡ drop at s = λ n k. take-all n (drop at s) (simp length-drop (omega arith)) in
+    all (length s - at) (omega arith) ∙ sym (all w h)
 
 -- a part of what stands behind a place
 pub part-drop : (n at w : ℕ) (s : Bytes) → part at w (drop n s) ≡ part (n + at) w s

@@ -38,28 +38,47 @@ pub fn u8_at(s: &[u8], at: usize) -> u8
     if at < s.len() { s[at] } else { 0 }
 }
 
-// The number of w bytes, from the highest down.
-fn number_within(s: &[u8], at: usize, w: usize) -> u64
-    requires { ⌜ w ≤ 8 ⌝ }
+// The number of w bytes, from the lowest up: `unit` is what the next byte counts.
+fn half_within(s: &[u8], at: usize, w: usize) -> u64
+    requires { ⌜ (w ≤ 4) × (at + w ≤ length (now s)) ⌝ }
     ensures { λ r. ⌜ (r ≡ num (part at w (now (s .entry)))) × (r < 256 ^ w) ⌝ }
 {
-    if s.len() <= at {
-        return 0;
-    }
-    let mut i = w;
+    let mut i = 0;
+    let mut unit: u64 = 1;
     let mut r: u64 = 0;
-    while 0 < i {
-        i -= 1;
-        r = 256 * r + wide(u8_at(s, at + i));
+    while i < w {
+        r = r + unit * wide(s[at + i]);
+        unit = 256 * unit;
+        i += 1;
     }
     r
 }
 
-// The number of the `width` bytes at a place; of the first 8 where there are more.
+// The number of w bytes, all of which are there. In halves, since each of these compiles to one load.
+fn number_within(s: &[u8], at: usize, w: usize) -> u64
+    requires { ⌜ (w ≤ 8) × (at + w ≤ length (now s)) ⌝ }
+    ensures { λ r. ⌜ (r ≡ num (part at w (now (s .entry)))) × (r < 256 ^ w) ⌝ }
+{
+    if w <= 4 {
+        half_within(s, at, w)
+    } else {
+        half_within(s, at, 4) + 4294967296 * half_within(s, at + 4, w - 4)
+    }
+}
+
+// The number of the `width` bytes at a place; of the first 8 where there are more. Whether all are there is asked
+// first: the width is then a constant where the caller's is.
 pub fn number_at(s: &[u8], at: usize, width: usize) -> u64
     ensures { λ r. ⌜ (r ≡ num (part at (min width 8) (now (s .entry)))) × (r < 256 ^ min width 8) ⌝ }
 {
-    number_within(s, at, least(width, 8))
+    let w = least(width, 8);
+    if fits_in(s.len(), at, w) {
+        return number_within(s, at, w);
+    }
+    if s.len() <= at {
+        return 0;
+    }
+    number_within(s, at, s.len() - at)
 }
 
 // Writes the w lowest bytes of a number, the lowest first.
@@ -76,13 +95,17 @@ fn put_within(s: &mut [u8], at: usize, w: usize, n: u64)
     }
 }
 
-// Writes a number into the `width` bytes at a place.
+// Writes a number into the `width` bytes at a place. Whether there is room for all is asked first, as above.
 pub fn put_number(s: &mut [u8], at: usize, width: usize, n: u64)
     ensures { λ _. ⌜ now (s .exit) ≡ sets (now (s .entry)) at (bytesOf width n) ⌝ }
 {
+    if fits_in(s.len(), at, width) {
+        put_within(s, at, width, n);
+        return;
+    }
     if s.len() <= at {
         return;
     }
     let room = s.len() - at;
-    put_within(s, at, least(width, room), n);
+    put_within(s, at, room, n);
 }

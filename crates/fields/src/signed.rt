@@ -1,7 +1,6 @@
 // Numbers in two's complement, out of the bytes at a place. Bytes past the end count as 0.
 ghost use mathlib.Core.Path.{_≡_};
-ghost use Prim.Native.Nat.{_+_, _<_, _≤_};
-ghost use lib.ListN.{length, getD};
+ghost use lib.ListN.{getD};
 ghost use mir.Syntax.{w8, w32};
 ghost use mir.Val.{toZ};
 ghost use Rattle.fields.specs.Bytes.{num, part};
@@ -26,30 +25,6 @@ fn i32_of(u: u32) -> i32
     }
 }
 
-fn wide(b: u8) -> u32
-    ensures { λ r. ⌜ (r ≡ b) × (r < 256) ⌝ }
-{
-    b as u32
-}
-
-fn pair_at(s: &[u8], at: usize) -> u32
-    requires { ⌜ at + 2 ≤ length (now s) ⌝ }
-    ensures { λ r. ⌜ (r ≡ num (part at 2 (now (s .entry)))) × (r < 65536) ⌝ }
-{
-    wide(s[at]) + wide(s[at + 1]) * 256
-}
-
-// The number of the four bytes at a place. Where they are all there, their sum compiles to one load.
-fn bits_at(s: &[u8], at: usize) -> u32
-    ensures { λ r. ⌜ r ≡ num (part at 4 (now (s .entry))) ⌝ }
-{
-    if crate::numbers::fits_in(s.len(), at, 4) {
-        pair_at(s, at) + pair_at(s, at + 2) * 65536
-    } else {
-        crate::numbers::number_at(s, at, 4) as u32
-    }
-}
-
 // The byte at a place as a signed number.
 pub fn i8_at(s: &[u8], at: usize) -> i8
     ensures { λ r. ⌜ r ≡ toZ w8 (getD (now (s .entry)) at 0) ⌝ }
@@ -61,5 +36,5 @@ pub fn i8_at(s: &[u8], at: usize) -> i8
 pub fn i32_at(s: &[u8], at: usize) -> i32
     ensures { λ r. ⌜ r ≡ toZ w32 (num (part at 4 (now (s .entry)))) ⌝ }
 {
-    i32_of(bits_at(s, at))
+    i32_of(crate::numbers::number_at(s, at, 4) as u32)
 }
