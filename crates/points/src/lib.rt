@@ -48,26 +48,22 @@ fn u16_at(s: &[u8], at: usize) -> u16
     fields::numbers::number_at(s, at, 2) as u16
 }
 
-// The number of `width` bytes, `shift` bytes behind a place; 0 where the format lacks the field.
+// The number of `width` bytes, `shift` bytes behind a place; 0 where the format lacks the field. That the record holds
+// them is asked once more here: it shows the compiler that no byte is missing.
 fn number_in(s: &[u8], place: Place, shift: usize, width: usize) -> u64
+    requires { ⌜ Holds (length (now s)) place (shift + width) ⌝ }
     ensures { λ r. ⌜ (r ≡ numberIn (min width 8) place shift (now (s .entry))) × (r < 256 ^ min width 8) ⌝ }
 {
     match place {
         Place::Absent => 0,
         Place::At(at) => {
-            if s.len() <= at {
-                0
+            if fields::numbers::fits_in(s.len(), at, shift + width) {
+                fields::numbers::number_at(s, at + shift, width)
             } else {
-                fields::numbers::number_at(&s[at..], shift, width)
+                0
             }
         }
     }
-}
-
-fn u16_in(s: &[u8], place: Place, shift: usize) -> u16
-    ensures { λ r. ⌜ r ≡ numberIn 2 place shift (now (s .entry)) ⌝ }
-{
-    number_in(s, place, shift, 2) as u16
 }
 
 // The fields of a record that all formats share; the others, which format 0 lacks, are 0.
