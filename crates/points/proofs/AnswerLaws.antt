@@ -1,20 +1,24 @@
 -- Laws of what decoding gives: each answer under its test.
 -- Assumes nothing.
 use mathlib.Core.Path.{_≡_, refl, sym, ap, _∙_, subst}
-use Prim.Native.Nat.{ℕ, _≤_}
+use Prim.Native.Nat.{ℕ, _+_, _≤_}
+use native.Mathlib.Omega.{arith}
 use mathlib.Core.Bool.{Bool, true, false, _&&_, _||_, not, true≢false}
 use mathlib.Core.List.{[]}
 use lib.ListN.{length}
-use lib.Dec.{T, eqb, leb, ltb}
-use borrow.Author.Tests.{eq-eqb, leb-true, leb-false, lt-ltb, le-ltb}
+use lib.Dec.{T, eqb, eqb→eq, leb, ltb}
+use borrow.Author.Tests.{eq-eqb, le-leb, leb-true, leb-false, lt-ltb, le-ltb}
 use Rattle.fields.specs.Bytes.{Bytes}
 use Rattle.fields.specs.Checks.{fails, firstFailing}
-use Rattle.fields.proofs.CheckLaws.{gives, goes-on, unclear}
-use Rattle.points.specs.Formats.{formatSize, timePlace, colourPlace}
+use Rattle.fields.proofs.CheckLaws.{clear, gives, goes-on, unclear}
+use Rattle.points.specs.declared.formats.Place.the-variants.{At}
+use Rattle.points.specs.declared.layouts.Layout.{Layout}
+use Rattle.points.specs.Formats.{formatSize, timePlace, colourPlace, layoutOf}
 use Rattle.points.specs.declared.Point.{Point}
 use Rattle.points.specs.declared.Decoded.the-variants.{Fields, Refused}
 use Rattle.points.specs.Points.{shape, numberIn, decodeChecks, fieldsIf, decoded, pointOf}
 use Rattle.points.specs.Encoding.{blank}
+use Rattle.points.proofs.formats.FormatLaws.{shared-first, time-held, colour-held}
 
 -- ---- the test of the shape, as the code makes it
 
@@ -28,10 +32,10 @@ all-three true true false = refl
 all-three true false c = refl
 all-three false b c = refl
 
-pub shape-test : (f len n size : ℕ) → size ≡ formatSize f → (eqb n len && leb size len) && leb f 3 ≡ not (fails (shape f len n))
+three-test : (f len n : ℕ) → (eqb n len && leb (formatSize f) len) && leb f 3 ≡ not (fails (shape f len n))
 unfolding fails shape
-shape-test f len n size e =
-    rw (e, above-not (formatSize f) len (leb (formatSize f) len) refl, above-not f 3 (leb f 3) refl)
+three-test f len n =
+    rw (above-not (formatSize f) len (leb (formatSize f) len) refl, above-not f 3 (leb f 3) refl)
     (all-three (eqb n len) (leb (formatSize f) len) (leb f 3))
 
 -- the code tests whether the shape is not as it has to be
@@ -42,6 +46,37 @@ not-shaped r false e h = absurd (true≢false (sym h ∙ ap not e))
 pub shaped : (r b : Bool) → r ≡ not b → not r ≡ false → T (not b)
 shaped r true e h = absurd (true≢false (sym (ap not e) ∙ h))
 shaped r false e h = tt
+
+-- where the shape is as it has to be, the bytes are as many as the format's or more
+shape-holds : (f len n : ℕ) → T (not (fails (shape f len n))) → (f ≤ 3) × (formatSize f ≤ n)
+unfolding shape
+shape-holds f len n h =
+    let k : T (eqb n len) × ((formatSize f ≤ len) × (f ≤ 3)) = clear (shape f len n) h in
+    (k .1 .1, omega (arith, eqb→eq n len (k .0)))
+
+implied : (a b : Bool) → (T a → b ≡ true) → a && b ≡ a
+implied true b h = h tt
+implied false b h = refl
+
+pub shape-test : (f len n size : ℕ) → size ≡ formatSize f → ((eqb n len && leb size len) && leb f 3) && leb 20 n ≡ not (fails (shape f len n))
+shape-test f len n size e =
+    rw (e, three-test f len n)
+    (implied (not (fails (shape f len n))) (leb 20 n) (λ t. let k = shape-holds f len n t in le-leb 20 n (omega (arith, shared-first f (k .0)))))
+
+-- ---- places in a record of the right shape
+
+module _ (f len n : ℕ) (r : Bool) (e : r ≡ not (fails (shape f len n))) (h : not r ≡ false) (l : Layout) (is : l ≡ layoutOf f) (at : ℕ) where
+  pub time-there : l .time ≡ At at → at + 8 ≤ n
+  unfolding layoutOf
+  time-there k =
+      let there = shape-holds f len n (shaped r (fails (shape f len n)) e h) in
+      omega (arith, time-held f at (there .0) (sym (ap (λ (x : Layout). x .time) is) ∙ k))
+
+  pub colour-there : l .colour ≡ At at → at + 6 ≤ n
+  unfolding layoutOf
+  colour-there k =
+      let there = shape-holds f len n (shaped r (fails (shape f len n)) e h) in
+      omega (arith, colour-held f at (there .0) (sym (ap (λ (x : Layout). x .colour) is) ∙ k))
 
 -- ---- decoding
 

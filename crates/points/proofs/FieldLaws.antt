@@ -1,15 +1,12 @@
 -- Laws of single fields: a number at a place, over the place, and a flag as a number.
 -- Assumes nothing.
-use mathlib.Core.Path.{_≡_, refl, sym}
-use Prim.Native.Nat.{ℕ, zero, zero-le, _+_, _-_, _^_, _≤_, _<_}
+use mathlib.Core.Path.{_≡_, refl}
+use Prim.Native.Nat.{ℕ, zero-le, _+_, _^_, _≤_, _<_}
 use native.Mathlib.Nat.{pow-le-pow-right}
 use native.Mathlib.Omega.{arith}
 use mathlib.Core.Bool.{Bool, true, false}
-use lib.ListN.{length, take, drop, length-drop}
-use lib.Seq.{take-all}
 use mir.Val.{boolByte}
 use Rattle.fields.specs.Bytes.{Bytes, num, part}
-use Rattle.fields.proofs.ByteLaws.{num-past, part-drop}
 use Rattle.points.specs.declared.formats.Place.{Place}
 use Rattle.points.specs.declared.formats.Place.the-variants.{At, Absent}
 use Rattle.points.specs.Points.{numberIn}
@@ -26,16 +23,10 @@ pub number-none : (w : ℕ) (place : Place) (shift : ℕ) (s : Bytes) → place 
 unfolding numberIn
 number-none w place shift s e = rw e (refl, none-fits w)
 
-pub number-past : (w : ℕ) (place : Place) (shift : ℕ) (s : Bytes) (at : ℕ) → place ≡ At at → length s ≤ at → Number w place shift s 0
-unfolding numberIn
-number-past w place shift s at e h = rw e (sym (num-past (at + shift) w s (omega arith)), none-fits w)
-
 pub number-there : (w : ℕ) (place : Place) (shift : ℕ) (s : Bytes) (at r : ℕ) → place ≡ At at
-    → (r ≡ num (part shift w (take (length s - at) (drop at s)))) × (r < 256 ^ w) → Number w place shift s r
+    → (r ≡ num (part (at + shift) w s)) × (r < 256 ^ w) → Number w place shift s r
 unfolding numberIn
-number-there w place shift s at r e h =
-    let whole : take (length s - at) (drop at s) ≡ drop at s = take-all (length s - at) (drop at s) (simp length-drop (omega arith)) in
-    rw e (rw (whole, part-drop at shift w s) at (h .0), h .1)
+number-there w place shift s at r e h = rw e h
 
 pub value-none : (place : Place) (n : ℕ) → place ≡ Absent → 0 ≡ valueIf place n
 unfolding valueIf

@@ -6,10 +6,12 @@ pub mod layouts;
 pub mod raw;
 
 ghost use mathlib.Core.Path.{_≡_};
-ghost use Prim.Native.Nat.{_<_, _^_, min};
+ghost use Prim.Native.Nat.{ℕ, _+_, _≤_, _<_, _^_, min};
+ghost use lib.ListN.{length};
 ghost use mathlib.Core.Bool.{not};
 ghost use Rattle.fields.specs.Bytes.{num, part};
 ghost use Rattle.fields.specs.Checks.{fails};
+ghost use Rattle.points.specs.declared.formats.Place.the-variants.{At};
 ghost use Rattle.points.specs.Points.{numberIn, shape, pointOf, decoded};
 ghost use Rattle.points.specs.Encoding.{blank};
 use crate::formats::Place;
@@ -51,7 +53,7 @@ fn u16_at(s: &[u8], at: usize) -> u16
 // The number of `width` bytes, `shift` bytes behind a place; 0 where the format lacks the field. That the record holds
 // them is asked once more here: it shows the compiler that no byte is missing.
 fn number_in(s: &[u8], place: Place, shift: usize, width: usize) -> u64
-    requires { ⌜ Holds (length (now s)) place (shift + width) ⌝ }
+    requires { ⌜ ((at : ℕ) → place ≡ At at → at + (shift + width) ≤ length (now s)) ⌝ }
     ensures { λ r. ⌜ (r ≡ numberIn (min width 8) place shift (now (s .entry))) × (r < 256 ^ min width 8) ⌝ }
 {
     match place {
@@ -64,6 +66,21 @@ fn number_in(s: &[u8], place: Place, shift: usize, width: usize) -> u64
             }
         }
     }
+}
+
+// GPS time. By itself, so that the compiler has made one load of its bytes where it weighs whether to inline `decode`.
+fn time_in(s: &[u8], place: Place) -> u64
+    requires { ⌜ ((at : ℕ) → place ≡ At at → at + 8 ≤ length (now s)) ⌝ }
+    ensures { λ r. ⌜ r ≡ numberIn 8 place 0 (now (s .entry)) ⌝ }
+{
+    number_in(s, place, 0, 8)
+}
+
+fn u16_in(s: &[u8], place: Place, shift: usize) -> u16
+    requires { ⌜ ((at : ℕ) → place ≡ At at → at + (shift + 2) ≤ length (now s)) ⌝ }
+    ensures { λ r. ⌜ r ≡ numberIn 2 place shift (now (s .entry)) ⌝ }
+{
+    number_in(s, place, shift, 2) as u16
 }
 
 // The fields of a record that all formats share; the others, which format 0 lacks, are 0.
@@ -92,14 +109,15 @@ fn shared_of(format: u8, s: &[u8]) -> Point
     }
 }
 
-// Whether n bytes are the record length, and that length and the format can be.
+// Whether n bytes are the record length, and that length and the format can be. The last part follows from the others:
+// it shows the compiler that the fields that all formats share are there.
 pub(crate) fn has_shape(format: u8, record_length: u16, n: usize) -> bool
     ensures { λ r. ⌜ r ≡ not (fails (shape format «record_length» n)) ⌝ }
 {
     let layout = layouts::layout_of(format);
     let size = layout.size;
     let len = record_length as usize;
-    (n == len) & (size <= len) & (format <= layouts::HIGHEST)
+    (n == len) & (size <= len) & (format <= layouts::HIGHEST) & (raw::SHORTEST <= n)
 }
 
 // The fields of a point record.
@@ -113,7 +131,7 @@ pub fn decode(format: u8, record_length: u16, bytes: &[u8]) -> Decoded
     let time = layout.time;
     let colour = layout.colour;
     let mut point = shared_of(format, bytes);
-    point.gps_time = number_in(bytes, time, 0, 8);
+    point.gps_time = time_in(bytes, time);
     point.red = u16_in(bytes, colour, 0);
     point.green = u16_in(bytes, colour, 2);
     point.blue = u16_in(bytes, colour, 4);

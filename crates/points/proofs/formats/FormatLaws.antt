@@ -46,6 +46,19 @@ layered (suc (suc (suc (suc f)))) = record { time = tt; colour = tt; size = λ h
 pub shared-first : (f : ℕ) → f ≤ 3 → 20 ≤ formatSize f
 shared-first f h = omega (arith, layered f .size h)
 
+-- where a format has the field, its record holds it
+pub time-held : (f at : ℕ) → f ≤ 3 → timePlace f ≡ At at → at + 8 ≤ formatSize f
+time-held f at h e =
+    let begins : at ≡ 20 = rw e at (layered f .time) in
+    let size : formatSize f ≡ 20 + 8 + widthIf (colourPlace f) 6 = rw e at (layered f .size h) in
+    omega arith
+
+pub colour-held : (f at : ℕ) → f ≤ 3 → colourPlace f ≡ At at → at + 6 ≤ formatSize f
+colour-held f at h e =
+    let begins : at ≡ 20 + widthIf (timePlace f) 8 = rw e at (layered f .colour) in
+    let size : formatSize f ≡ 20 + widthIf (timePlace f) 8 + 6 = rw e at (layered f .size h) in
+    omega arith
+
 -- ---- formats above 3 have no size and no places
 
 pub record Above (f : ℕ) : Type 0 where

@@ -1,5 +1,5 @@
--- `fields::numbers::half_within` meets its contract. The loop goes from the lowest byte up: r is the number of the first
--- i bytes, and unit is 256 ^ i.
+-- `fields::numbers::half_within` meets its contract. The loop goes from the lowest byte up: r is the number of the
+-- first i bytes, and unit is 256 ^ i.
 -- Assumes nothing.
 use mathlib.Core.Path.{_≡_, refl, sym, _∙_}
 use Prim.Native.Nat.{ℕ, suc, _+_, _-_, _*_, _^_, _≤_, _<_}
