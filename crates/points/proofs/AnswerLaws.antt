@@ -63,20 +63,19 @@ shape-test f len n size e =
     rw (e, three-test f len n)
     (implied (not (fails (shape f len n))) (leb 20 n) (λ t. let k = shape-holds f len n t in le-leb 20 n (omega (arith, shared-first f (k .0)))))
 
--- ---- places in a record of the right shape
+-- what follows where the code has found the shape as it has to be
+pub shape-found : (f len n : ℕ) (r : Bool) → r ≡ not (fails (shape f len n)) → not r ≡ false → (f ≤ 3) × (formatSize f ≤ n)
+shape-found f len n r e h = shape-holds f len n (shaped r (fails (shape f len n)) e h)
 
-module _ (f len n : ℕ) (r : Bool) (e : r ≡ not (fails (shape f len n))) (h : not r ≡ false) (l : Layout) (is : l ≡ layoutOf f) (at : ℕ) where
+-- the fields that only some formats have, in n bytes that are as many as the format's or more
+module _ (f n : ℕ) (h : (f ≤ 3) × (formatSize f ≤ n)) (l : Layout) (is : l ≡ layoutOf f) (at : ℕ) where
   pub time-there : l .time ≡ At at → at + 8 ≤ n
   unfolding layoutOf
-  time-there k =
-      let there = shape-holds f len n (shaped r (fails (shape f len n)) e h) in
-      omega (arith, time-held f at (there .0) (sym (ap (λ (x : Layout). x .time) is) ∙ k))
+  time-there k = omega (arith, time-held f at (h .0) (sym (ap (λ (x : Layout). x .time) is) ∙ k))
 
   pub colour-there : l .colour ≡ At at → at + 6 ≤ n
   unfolding layoutOf
-  colour-there k =
-      let there = shape-holds f len n (shaped r (fails (shape f len n)) e h) in
-      omega (arith, colour-held f at (there .0) (sym (ap (λ (x : Layout). x .colour) is) ∙ k))
+  colour-there k = omega (arith, colour-held f at (h .0) (sym (ap (λ (x : Layout). x .colour) is) ∙ k))
 
 -- ---- decoding
 

@@ -1,7 +1,11 @@
 // A point's fields into the bytes of a record.
 ghost use mathlib.Core.Path.{_≡_};
+ghost use Prim.Native.Nat.{ℕ, _+_, _≤_};
+ghost use lib.ListN.{length};
 ghost use Rattle.fields.specs.Bytes.{bytesOf, join};
 ghost use Rattle.fields.specs.Checks.{fails};
+ghost use Rattle.points.specs.declared.formats.Place.the-variants.{At};
+ghost use Rattle.points.specs.Formats.{formatSize};
 ghost use Rattle.points.specs.Encoding.{colours, large, storedAt, withOthers, encoded};
 use crate::Point;
 use crate::common;
@@ -17,17 +21,21 @@ fn colour_of(point: Point) -> u64
     point.red as u64 + 65536 * (point.green as u64) + 4294967296 * (point.blue as u64)
 }
 
-// Writes a number at a place, if the format has it.
+// Writes a number at a place, if the format has it. That there is room is asked once more, as in `number_in`.
 fn put_at(room: &mut [u8], place: Place, width: usize, n: u64)
+    requires { ⌜ ((at : ℕ) → place ≡ At at → at + width ≤ length (now room)) ⌝ }
     ensures { λ _. ⌜ now (room .exit) ≡ storedAt place (bytesOf width n) (now (room .entry)) ⌝ }
 {
     if let Place::At(at) = place {
-        fields::numbers::put_number(room, at, width, n);
+        if fields::numbers::fits_in(room.len(), at, width) {
+            fields::numbers::put_number(room, at, width, n);
+        }
     }
 }
 
 // Writes GPS time and colour, those that the format has.
 fn put_others(room: &mut [u8], format: u8, point: Point)
+    requires { ⌜ (format ≤ 3) × (formatSize format ≤ length (now room)) ⌝ }
     ensures { λ _. ⌜ now (room .exit) ≡ withOthers format point (now (room .entry)) ⌝ }
 {
     let layout = layouts::layout_of(format);

@@ -8,7 +8,7 @@ use Rattle.points.specs.declared.formats.Place.{Place}
 use Rattle.points.specs.Formats.{layoutOf}
 use Rattle.points.specs.declared.Decoded.the-variants.{Fields}
 use Rattle.points.specs.Points.{numberIn}
-use Rattle.points.proofs.AnswerLaws.{refused, accepted-by, with-others, time-there, colour-there}
+use Rattle.points.proofs.AnswerLaws.{refused, accepted-by, with-others, shape-found, time-there, colour-there}
 use Rattle.points.proofs.decode.Statement.{statement}
 use Rattle.points.proofs.decode.Tie as tie
 
@@ -22,28 +22,28 @@ time-in-requires c κs at e =
     let l = c .before in
     let i = l .before in
     let a = i .before .before .before .args in
-    time-there (a .format) (a .record-length) (length (a .bytes .now)) _ (i .before .has-shape .ensures) (i .if1 .left) (l .layout-of .result) (l .layout-of .ensures) at e
+    time-there (a .format) (length (a .bytes .now)) (shape-found _ _ _ _ (i .before .has-shape .ensures) (i .if1 .left)) (l .layout-of .result) (l .layout-of .ensures) at e
 
 u16-in-requires : tie.Need-u16-in-requires
 u16-in-requires c κs at e =
     let l = c .before .before in
     let i = l .before in
     let a = i .before .before .before .args in
-    omega (arith, colour-there (a .format) (a .record-length) (length (a .bytes .now)) _ (i .before .has-shape .ensures) (i .if1 .left) (l .layout-of .result) (l .layout-of .ensures) at e)
+    omega (arith, colour-there (a .format) (length (a .bytes .now)) (shape-found _ _ _ _ (i .before .has-shape .ensures) (i .if1 .left)) (l .layout-of .result) (l .layout-of .ensures) at e)
 
 u16-in-requires-2 : tie.Need-u16-in-requires-2
 u16-in-requires-2 c κs at e =
     let l = c .before .before .before in
     let i = l .before in
     let a = i .before .before .before .args in
-    omega (arith, colour-there (a .format) (a .record-length) (length (a .bytes .now)) _ (i .before .has-shape .ensures) (i .if1 .left) (l .layout-of .result) (l .layout-of .ensures) at e)
+    omega (arith, colour-there (a .format) (length (a .bytes .now)) (shape-found _ _ _ _ (i .before .has-shape .ensures) (i .if1 .left)) (l .layout-of .result) (l .layout-of .ensures) at e)
 
 u16-in-requires-3 : tie.Need-u16-in-requires-3
 u16-in-requires-3 c κs at e =
     let l = c .before .before .before .before in
     let i = l .before in
     let a = i .before .before .before .args in
-    omega (arith, colour-there (a .format) (a .record-length) (length (a .bytes .now)) _ (i .before .has-shape .ensures) (i .if1 .left) (l .layout-of .result) (l .layout-of .ensures) at e)
+    omega (arith, colour-there (a .format) (length (a .bytes .now)) (shape-found _ _ _ _ (i .before .has-shape .ensures) (i .if1 .left)) (l .layout-of .result) (l .layout-of .ensures) at e)
 
 returns-2 : tie.Need-returns-2
 unfolding layoutOf

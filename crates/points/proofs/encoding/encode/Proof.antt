@@ -1,10 +1,13 @@
 -- `encoding::encode` meets its contract: each group of fields is written behind the one before it. Assumes nothing.
 use mathlib.Core.Path.{sym, ap, _∙_}
+use native.Mathlib.Omega.{arith}
+use lib.ListN.{length}
 use denote.Ref.{now}
 use lib.Seq.{sets}
 use Rattle.fields.specs.Bytes.{Bytes}
 use Rattle.fields.specs.declared.Verdict.the-variants.{Passes}
 use Rattle.points.specs.Encoding.{pointBytes}
+use Rattle.points.proofs.AnswerLaws.{shape-found}
 use Rattle.points.proofs.encoding.AnswerLaws.{refused-12, refused-13, stored-by}
 use Rattle.points.proofs.encoding.LayoutLaws.{all-stored}
 use borrow.Author.Needs.{needs}
@@ -23,6 +26,15 @@ returns-2 c =
     let a = h .before .before .args in
     sym (refused-13 (a .format) (a .record-length) (a .point) (a .room .now) _ (h .has-shape .ensures) (i .if1 .left) (sym (c .before .is-large .ensures) ∙ c .if2 .taken))
 
+put-others-requires : tie.Need-put-others-requires
+put-others-requires c κs =
+    let e = c .before .before .before .before .before in
+    let i = e .before .before in
+    let h = i .before in
+    let a = h .before .before .args in
+    let there = shape-found (a .format) (a .record-length) (length (a .room .now)) _ (h .has-shape .ensures) (i .if1 .left) in
+    (there .0, omega arith)
+
 returns-3 : tie.Need-returns-3
 returns-3 c =
     let k = c .before .before in
@@ -37,4 +49,4 @@ returns-3 c =
     (sym (stored-by (a .format) (a .record-length) (a .point) (a .room .now) _ (h .has-shape .ensures) (i .if1 .left) (sym (e .before .is-large .ensures) ∙ e .if2 .left)))
 
 pub encode-spec : {M : Type 1} → statement M
-encode-spec = tie.close (tie.spec (λ c κs. tt) returns (λ c κs. tt) returns-2 (λ c κs. tt) (λ c κs. tt) (λ c. search needs) returns-3)
+encode-spec = tie.close (tie.spec (λ c κs. tt) returns (λ c κs. tt) returns-2 (λ c κs. tt) put-others-requires (λ c. search needs) returns-3)
