@@ -15,14 +15,17 @@ use Rattle.points.proofs.raw.RawLaws.{return-front, stored-of-front}
 use Rattle.publicpart.proofs.BinLaws.{length-consIf, withReturn, bins-listed}
 use Rattle.points.specs.declared.raw.Stored.{Stored}
 use Rattle.tally.specs.declared.Tally.{Tally}
-use Rattle.tally.specs.Tally.{binsWith, binNumbers, noTally, tallyWith, tallied, tallyOf}
+use Rattle.tally.specs.declared.Bins.{Bins}
+use Rattle.tally.specs.Bins.{oneIn, binsWith, binNumbers}
+use Rattle.tally.specs.Tally.{noTally, tallyWith, tallied, tallyOf}
 
 -- ---- one point
 
--- what a tally becomes by a return number n and coordinates q is what it becomes by a point that they are of
-pub tallied-by : (f : ℕ) (t t′ : Tally) (n : ℕ) (q : Stored) (p : Bytes) → t′ ≡ tallyWith t n q → n ≡ returnOf f p → q ≡ storedOf p → t′ ≡ tallied f t p
+-- what a tally becomes by what a return number n adds and by coordinates q is what it becomes by a point that they are of
+pub tallied-by : (f : ℕ) (t t′ : Tally) (n : ℕ) (one : Bins) (q : Stored) (p : Bytes) → t′ ≡ tallyWith t one q → one ≡ oneIn n → n ≡ returnOf f p → q ≡ storedOf p
+    → t′ ≡ tallied f t p
 unfolding tallied
-tallied-by f t t′ n q p e g h = e ∙ rw (g, h)
+tallied-by f t t′ n one q p e o g h = e ∙ rw (o, g, h)
 
 -- the first 20 bytes decide
 pub tallied-front : (f n : ℕ) (t : Tally) (p : Bytes) → 20 ≤ n → tallied f t (take n p) ≡ tallied f t p
@@ -54,7 +57,7 @@ module _ (f r : ℕ) (bin : Tally → ℕ) (step : (t : Tally) (p : Bytes) → b
   bin-of e ps = omega (arith, bin-from noTally ps)
 
 pub tally-bins : (f : ℕ) (ps : List Bytes) → binNumbers (tallyOf f ps .bins) ≡ bins 5 f ps
-unfolding binNumbers noTally tallied tallyWith binsWith
+unfolding binNumbers noTally tallied tallyWith binsWith oneIn
 tally-bins f ps =
     rw (
       bins-listed f ps,

@@ -1,14 +1,15 @@
-// Counts, bins and bounds of a run of points.
+// Counts, bins and bounds of points.
+mod by_return;
 mod extremes;
 
 ghost use mathlib.Core.Path.{_≡_};
-ghost use Prim.Native.Nat.{_+_, _*_, _<_, _≤_};
+ghost use mathlib.Core.List.{foldl};
+ghost use Prim.Native.Nat.{_*_, _^_, _<_, _≤_};
 ghost use lib.ListN.{length};
-ghost use lib.Dec.{eqb};
 ghost use Rattle.fields.specs.Bytes.{pieces};
-ghost use mir.Val.{boolByte};
 ghost use Rattle.points.specs.Raw.{pointsOf};
-ghost use Rattle.tally.specs.Tally.{noTally, binsWith, tallyWith, tallied, tallyOf, BinsUpTo, CountsUpTo, tallyBounds};
+ghost use Rattle.tally.specs.Bins.{oneAmongZeros, BinsUpTo};
+ghost use Rattle.tally.specs.Tally.{noTally, tallyWith, tallied, tallyOf, tallyMore, countsFit, CountsUpTo, tallyBounds};
 use points::raw;
 use points::raw::Stored;
 use scaling::Bounds;
@@ -32,7 +33,7 @@ pub struct Tally {
 }
 
 // The tally before any point.
-fn fresh() -> Tally
+pub fn fresh() -> Tally
     ensures { λ r. ⌜ r ≡ noTally ⌝ }
 {
     Tally {
@@ -55,92 +56,86 @@ fn fresh() -> Tally
     }
 }
 
-// The count of a bin with one return number more.
-fn counted(count: u64, n: u8, bin: u8) -> u64
-    requires { ⌜ count ≤ 4294967295 ⌝ }
-    ensures { λ r. ⌜ r ≡ count + boolByte (eqb n bin) ⌝ }
+// Whether no count is above what the 4 bytes of a LAS 1.2 header hold.
+fn counts_fit(t: Tally) -> bool
+    ensures { λ r. ⌜ r ≡ countsFit t ⌝ }
 {
-    count + (n == bin) as u64
+    (t.count <= by_return::MOST) & by_return::bins_fit(t.bins)
 }
 
-// The bins with one return number more.
-fn binned(b: Bins, n: u8) -> Bins
-    requires { ⌜ BinsUpTo b 4294967295 ⌝ }
-    ensures { λ r. ⌜ r ≡ binsWith b n ⌝ }
-{
-    Bins {
-        first: counted(b.first, n, 1),
-        second: counted(b.second, n, 2),
-        third: counted(b.third, n, 3),
-        fourth: counted(b.fourth, n, 4),
-        fifth: counted(b.fifth, n, 5),
-    }
-}
-
-// The tally with one point more.
-fn with_point(t: Tally, n: u8, p: Stored) -> Tally
-    requires { ⌜ CountsUpTo t 4294967295 ⌝ }
-    ensures { λ r. ⌜ r ≡ tallyWith t n p ⌝ }
+// The tally with one point more, which adds `one` to the bins.
+fn with_point(t: Tally, one: Bins, p: Stored) -> Tally
+    requires { ⌜ CountsUpTo t (2 ^ 33) × BinsUpTo one 1 ⌝ }
+    ensures { λ r. ⌜ r ≡ tallyWith t one p ⌝ }
 {
     Tally {
         count: t.count + 1,
-        bins: binned(t.bins, n),
+        bins: by_return::binned(t.bins, one),
         extremes: extremes::extended(t.extremes, p),
     }
 }
 
 // The thin function: the tally is lent, and one point is added in place.
-fn count_point(t: &mut Tally, n: u8, p: Stored)
-    requires { ⌜ CountsUpTo (now t) 4294967295 ⌝ }
-    ensures { λ _. ⌜ now (t .exit) ≡ tallyWith (now (t .entry)) n p ⌝ }
+fn count_point(t: &mut Tally, one: Bins, p: Stored)
+    requires { ⌜ CountsUpTo (now t) (2 ^ 33) × BinsUpTo one 1 ⌝ }
+    ensures { λ _. ⌜ now (t .exit) ≡ tallyWith (now (t .entry)) one p ⌝ }
 {
-    *t = with_point(*t, n, p);
+    *t = with_point(*t, one, p);
 }
 
 // A tally of one's own, lent for one point.
-fn step(t: Tally, n: u8, p: Stored) -> Tally
-    requires { ⌜ CountsUpTo t 4294967295 ⌝ }
-    ensures { λ r. ⌜ r ≡ tallyWith t n p ⌝ }
+fn step(t: Tally, one: Bins, p: Stored) -> Tally
+    requires { ⌜ CountsUpTo t (2 ^ 33) × BinsUpTo one 1 ⌝ }
+    ensures { λ r. ⌜ r ≡ tallyWith t one p ⌝ }
 {
     let mut u = t;
-    count_point(&mut u, n, p);
+    count_point(&mut u, one, p);
     u
 }
 
 // The tally with the point of these bytes.
-fn add_point(t: Tally, format: u8, point: &[u8]) -> Tally
-    requires { ⌜ CountsUpTo t 4294967295 ⌝ }
+fn add_point(t: Tally, ones: &[u64; 12], format: u8, point: &[u8]) -> Tally
+    requires { ⌜ CountsUpTo t (2 ^ 33) × (now ones ≡ oneAmongZeros) ⌝ }
     ensures { λ r. ⌜ r ≡ tallied format t (now (point .entry)) ⌝ }
 {
-    step(t, raw::return_of(format, point), raw::stored_of(point))
+    let one = by_return::one_in(ones, raw::return_of(format, point));
+    step(t, one, raw::stored_of(point))
 }
 
-// The tally of the points of a run that holds them all.
-fn tally_run(run: &[u8], format: u8, record_length: usize, count: usize) -> Tally
-    requires { ⌜ (count < 4294967296) × (count * «record_length» ≤ length (now run)) ⌝ }
-    ensures { λ r. ⌜ r ≡ tallyOf format (pieces count «record_length» (now (run .entry))) ⌝ }
+// The tally with the points of a run that holds them all.
+fn tally_run(t: Tally, run: &[u8], format: u8, record_length: usize, count: usize) -> Tally
+    requires { ⌜ (count < 2 ^ 32) × (count * «record_length» ≤ length (now run)) × CountsUpTo t (2 ^ 32) ⌝ }
+    ensures { λ r. ⌜ r ≡ foldl (tallied format) t (pieces count «record_length» (now (run .entry))) ⌝ }
 {
-    let mut t = fresh();
+    let ones = by_return::one_among_zeros();
+    let mut u = t;
     let mut at = 0;
     let mut left = count;
     while 0 < left {
         let next = at + record_length;
-        t = add_point(t, format, &run[at..next]);
+        u = add_point(u, &ones, format, &run[at..next]);
         at = next;
         left -= 1;
+    }
+    u
+}
+
+// The tally with the first `count` records of `run`, points of a format, `record_length` bytes each; as it is where the
+// run does not hold them, or where a count is above what a LAS 1.2 header holds.
+pub fn tally_more(t: Tally, run: &[u8], format: u8, record_length: usize, count: usize) -> Tally
+    ensures { λ r. ⌜ r ≡ tallyMore format t (pointsOf count «record_length» (now (run .entry))) ⌝ }
+{
+    if counts_fit(t) & raw::holds(run.len(), record_length, count) {
+        return tally_run(t, run, format, record_length, count);
     }
     t
 }
 
-// The tally of the first `count` records of `run`, points of a format, `record_length` bytes each; of no point where
-// the run does not hold them.
+// The tally of these records; of no point where the run does not hold them.
 pub fn tally_points(run: &[u8], format: u8, record_length: usize, count: usize) -> Tally
     ensures { λ r. ⌜ r ≡ tallyOf format (pointsOf count «record_length» (now (run .entry))) ⌝ }
 {
-    if raw::holds(run.len(), record_length, count) {
-        return tally_run(run, format, record_length, count);
-    }
-    fresh()
+    tally_more(fresh(), run, format, record_length, count)
 }
 
 // The bits of the bounds: of the coordinates of the extremes, or of +0.0 where there is no point.

@@ -20,6 +20,11 @@ pub class-byte : (f : ℕ) (p : Bytes) → AllBytes p → classOf f p < 256
 unfolding classOf
 class-byte f p h = h 15
 
+-- a return number is three bits
+pub return-small : (f : ℕ) (p : Bytes) → returnOf f p < 8
+unfolding returnOf bits
+return-small f p = omega arith
+
 -- ---- the first 20 bytes decide
 
 pub class-front : (f n : ℕ) (p : Bytes) → 20 ≤ n → classOf f (take n p) ≡ classOf f p

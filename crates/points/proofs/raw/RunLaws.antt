@@ -20,7 +20,7 @@ pub record InRun (count len size : ℕ) : Type 0 where
   pub few : count < 2 ^ 32
   pub within : count * len ≤ size
 
-both : (a b : Bool) → a && b ≡ true → (a ≡ true) × (b ≡ true)
+pub both : (a b : Bool) → a && b ≡ true → (a ≡ true) × (b ≡ true)
 both true b e = (refl, e)
 both false b e = absurd (true≢false (sym e))
 

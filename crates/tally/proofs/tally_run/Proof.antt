@@ -1,48 +1,48 @@
--- `tally::tally_run` meets its contract. The invariant of its loop is `Running`. Assumes nothing.
-use Prim.Native.Nat.{_+_, _-_, _≤_}
-use native.Mathlib.Omega.{arith}
+-- `tally_run` meets its contract. Assumes nothing.
+use Prim.Native.Nat.{_+_, _-_, _^_, _≤_}
 use lib.ListN.{length}
 use Rattle.tally.proofs.CountLaws.{counts-up}
+use native.Mathlib.Omega.{arith}
+use borrow.Author.Needs.{needs}
 use Rattle.tally.proofs.RunLaws.{Running, start, ended, next-in, turned}
 use Rattle.tally.proofs.tally_run.Statement.{statement}
 use Rattle.tally.proofs.tally_run.Tie as tie
 
 abbrev Inv-loop : tie.InvT-loop
-Inv-loop run format record-length count t₀ at₀ left₀ t at left = Running format record-length run count left at t
+Inv-loop run format record-length count ones u₀ at₀ left₀ u at left = Running format record-length run count u₀ left at u
 
 abbrev μ-loop : tie.MeasureT-loop
-μ-loop run format record-length count t₀ at₀ left₀ t at left = left
+μ-loop run format record-length count ones u₀ at₀ left₀ u at left = left
+
+one-among-zeros-requires : tie.Need-one-among-zeros-requires Inv-loop μ-loop
+one-among-zeros-requires c κs = tt
 
 loop-holds : tie.Need-loop-holds Inv-loop μ-loop
 loop-holds c =
     let s = c .before .before in
-    let a = s .args in
-    rw (c .fresh .ensures) (start (a .format) (a .record-length) (a .run .now) (a .count) (s .pre .1))
+    start _ _ _ _ _ (s .pre .1) (s .pre .2)
 
 -- in a turn the next record lies within the run
 inside : (c : tie.In-loop Inv-loop μ-loop) → c .before .loop .at + c .before .before .before .before .args .record-length ≤ length (c .before .before .before .before .args .run .now)
-inside c =
-    let a = c .before .before .before .before .args in
-    let l = c .before .loop in
-    next-in (a .format) (a .record-length) (a .run .now) (a .count) (l .left) (l .at) (l .t) (l .inv) (omega arith)
+inside c = let l = c .before .loop in next-in _ _ _ _ _ (l .left) (l .at) (l .u) (l .inv) (omega arith)
 
 add-next : tie.Need-add-next Inv-loop μ-loop
 add-next c = omega (arith, inside c)
 
 sub-add-point : tie.Need-sub-add-point Inv-loop μ-loop
-sub-add-point c = omega arith
+sub-add-point c = search needs
 
 part-add-point-start : tie.Need-part-add-point-start Inv-loop μ-loop
-part-add-point-start c = omega arith
+part-add-point-start c = search needs
 
 part-add-point-end : tie.Need-part-add-point-end Inv-loop μ-loop
-part-add-point-end c = omega (arith, inside c)
+part-add-point-end c = omega (arith, inside (c .before))
 
 add-point-requires : tie.Need-add-point-requires Inv-loop μ-loop
 add-point-requires c κs =
-    let s = c .before .before .before .before .before in
-    let l = c .before .before .loop in
-    counts-up (l .t) (s .args .count - l .left) 4294967295 (l .inv .counts) (omega (arith, s .pre .0))
+    let l = c .before .before .before .loop in
+    let s = c .before .before .before .before .before .before in
+    (counts-up (l .u) (2 ^ 32 + (s .args .count - l .left)) (2 ^ 33) (l .inv .counts) (omega (arith, s .pre .0)), c .before .before .before .before .one-among-zeros .ensures)
 
 sub-left : tie.Need-sub-left Inv-loop μ-loop
 sub-left c = omega arith
@@ -52,16 +52,14 @@ loop-less c = omega arith
 
 loop-again : tie.Need-loop-again Inv-loop μ-loop
 loop-again c =
-    let a = c .before .before .before .before .before .before .args in
-    let l = c .before .before .before .loop in
-    turned (a .format) (a .record-length) (a .run .now) (a .count) (l .left) (l .at) (l .t) (l .inv) (omega arith)
-    (c .add-point .result) (l .at + a .record-length - l .at) (c .add-point .ensures) (omega arith)
+    let a = c .before .before .before .before .before .before .before .args in
+    let l = c .before .before .before .before .loop in
+    turned _ _ _ _ _ (l .left) (l .at) (l .u) (l .inv) (omega arith) (c .add-point .result) (l .at + a .record-length - l .at) (c .add-point .ensures) (omega arith)
 
 returns : tie.Need-returns Inv-loop μ-loop
 returns c =
-    let a = c .before .before .before .before .args in
     let l = c .before .loop in
-    ended (a .format) (a .record-length) (a .run .now) (a .count) (l .left) (l .at) (l .t) (l .inv) (omega arith)
+    ended _ _ _ _ _ (l .left) (l .at) (l .u) (l .inv) (omega arith)
 
 pub tally-run-spec : {M : Type 1} → statement M
 tally-run-spec =
@@ -69,7 +67,7 @@ tally-run-spec =
     (tie.spec
     Inv-loop
     μ-loop
-    (λ c κs. tt)
+    one-among-zeros-requires
     loop-holds
     add-next
     sub-add-point

@@ -24,7 +24,7 @@ same-length : tie.Need-same-length
 same-length c = search needs
 
 returns : tie.Need-returns
-returns c = rw (room (c .before .before .before .before )) (c .before .before .copy-all .ensures)
+returns c = rw (room (c .before .before .before .before)) (c .before .before .copy-all .ensures)
 
 returns-2 : tie.Need-returns-2
 returns-2 c = let e = sym (c .before .fits-in .ensures) ∙ c .if1 .left in rw e
