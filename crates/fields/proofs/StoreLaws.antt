@@ -5,8 +5,11 @@ use mathlib.Core.Logic.{_⊎_, inl, inr}
 use Prim.Native.Nat.{ℕ, zero, suc, _+_, _-_, _^_, _≤_, _<_, min}
 use native.Mathlib.Nat.{eq-zero-or-pos}
 use native.Mathlib.Omega.{arith}
+use mathlib.Core.Bool.{cond}
 use mathlib.Core.List.{[], _∷_, _++_, append-assoc, append-nil}
 use lib.ListN.{length, take, drop, set, length-set, length-take, length-drop, take-append-drop, drop-of-length-le}
+use lib.Dec.{leb}
+use borrow.Author.Tests.{le-leb}
 use lib.Seq.{take-all, sets, sets-eq, paste, length-take-le, take-at, drop-at, set-out, drop-set-lt, drop-set-add, take-set-le}
 use Rattle.fields.specs.Bytes.{Bytes, part, num, bytesOf}
 use Rattle.fields.proofs.ByteLaws.{num-bytesOf, length-bytesOf}
@@ -45,6 +48,10 @@ pub paste-sets : (d : Bytes) (at : ℕ) (s : Bytes) (n : ℕ) → n ≤ length s
 paste-sets d at s n hs hd =
     let e : length (take n s) ≡ n = length-take-le n s hs in
     sym (sets-eq (take n s) d at (rw e hd) ∙ ap (λ (k : ℕ). take at d ++ take n s ++ drop (at + k) d) e)
+
+-- what was stored whole or not at all, where there is room
+pub stored-whole : (d : Bytes) (at : ℕ) (xs r : Bytes) → r ≡ cond (leb (at + length xs) (length d)) (sets d at xs) d → at + length xs ≤ length d → r ≡ sets d at xs
+stored-whole d at xs r e h = e ∙ rw (le-leb (at + length xs) (length d) h)
 
 -- ---- a part from a place on, lent and come back
 

@@ -22,8 +22,7 @@ use Rattle.lasfile.specs.HeaderFields.{headerBlock, pointOffset, pointCount, re
 use Rattle.lasfile.specs.FileChecks.{fileVerdict}
 use Rattle.lasfile.proofs.Passed.{passed}
 use Rattle.sheet.specs.Keeping.{keepsPoint, TableOf, inTable}
-use Rattle.points.specs.Raw.{pointsOf}
-use Rattle.points.proofs.raw.RunLaws.{InRun, points-held}
+use Rattle.points.proofs.raw.RunLaws.{InRun}
 use Rattle.tally.specs.Tally.{tallyOf}
 use Rattle.tally.proofs.TallyLaws.{tally-count, tally-bins}
 use Rattle.tally.proofs.BoundsLaws.{tally-bounds}
@@ -34,7 +33,7 @@ use Rattle.publicpart.proofs.Sound.{Sound, sound, sound-restrict}
 use Rattle.publicpart.proofs.PublicLaws.{carried-format, carried-length, carried-scaled, contents-points, public-is, public-carried, public-points}
 use Rattle.publicpart.proofs.HeadLaws.{length-head}
 use Rattle.publicpart.proofs.RenderLaws.{new-offset, total-length, render-parts, head-of}
-use Rattle.publicpart.proofs.LengthLaws.{no-longer}
+use Rattle.publicpart.proofs.LengthLaws.{room-for-all}
 use Rattle.publicpart.proofs.Back.{fitting, length-render}
 use Rattle.release.specs.declared.head.HeadTotals.{HeadTotals}
 use Rattle.release.specs.Heads.{headWith, headBytes}
@@ -42,10 +41,9 @@ use Rattle.release.proofs.head.HeadLaws.{whole-head}
 use Rattle.release.specs.declared.vlrs.KeptRecords.{KeptRecords}
 use Rattle.release.specs.KeptRecords.{measured}
 use Rattle.sheet.proofs.class_table.ClassLaws.{table-keeps}
-use Rattle.release.specs.Assembly.{totalsOf, withPoints, written}
-use Rattle.release.specs.KeptPoints.{keptPoints}
+use Rattle.release.specs.Assembly.{keptIn, endOfPoints, totalsOf, withPoints, written}
 use Rattle.release.proofs.kept_points.KeptPointLaws.{kept-held}
-use Rattle.release.proofs.assembly.PointLaws.{with-points}
+use Rattle.release.proofs.assembly.PointLaws.{kept-in, points-end, with-points}
 use Rattle.release.proofs.assembly.WrittenLaws.{head-said, written-is}
 
 -- zeros behind a run, as far as there is room
@@ -127,13 +125,6 @@ module _ (sheet s : Bytes) (bytes : AllBytes s) (passes : fileVerdict s ≡ Pass
   own-head : headBytes s own ≡ head
   own-head = whole-head s own (passed s passes .whole) ∙ ap (λ (k : Head). join (headFields k)) head-is
 
-  -- points are read back where they stand, whatever follows
-  read-back : (z : Bytes) → pointsOf (length (part-of .points)) (recordLength s) (points ++ z) ≡ part-of .points
-  read-back z =
-      points-held (length (part-of .points)) (recordLength s) (points ++ z)
-      record { long = long; few = sound-part .pointCount; within = omega (arith, length-append points z, length-of-points) }
-      ∙ pieces-back (recordLength s) (part-of .points) z (rw (← length-is) (sound-part .points))
-
   module _ (table : List Bool) (right : TableOf sheet table) where
     -- the table keeps the points that the sheet keeps
     by-table : (ps : List Bytes) → All AllBytes ps → All (λ p. inTable table (format s) p ≡ keepsPoint sheet (format s) p) ps
@@ -146,9 +137,9 @@ module _ (sheet s : Bytes) (bytes : AllBytes s) (passes : fileVerdict s ≡ Pass
     held : InRun (pointCount s) (recordLength s) (length run)
     held = record { long = long; few = count-low s bytes; within = simp length-drop (omega (arith, passed s passes .pointed)) }
 
-    pub points-are : keptPoints table (format s) (pointCount s) (recordLength s) run ≡ part-of .points
+    pub points-are : keptIn table s ≡ part-of .points
     points-are =
-        rw (public-points sheet s, contents-points s)
+        rw (kept-in table s, public-points sheet s, contents-points s)
         (kept-held table (format s) (pointCount s) (recordLength s) run held
         ∙ kept-same (inTable table (format s)) (keepsPoint sheet (format s)) (pieces (pointCount s) (recordLength s) run)
         (by-table (pieces (pointCount s) (recordLength s) run) (pieces-bytes (pointCount s) (recordLength s) run run-bytes)))
@@ -180,30 +171,29 @@ module _ (sheet s : Bytes) (bytes : AllBytes s) (passes : fileVerdict s ≡ Pass
           rw (with-points, records-stored, length-sets, points-are, zeros-behind points (length out - newOffset part-of) (omega (arith, render-length, length-of-points)), n)
 
       -- records, points and zeros at their places, and the header over the front
-      pub assembled : written sheet s table (length (part-of .points)) (length (part-of .records)) (newOffset part-of) out ≡ render part-of ++ z
+      pub assembled : written sheet s table (length (part-of .records)) (newOffset part-of) out ≡ render part-of ++ z
       assembled =
-          rw (written-is, points-stored, drop-at (front ++ records) (points ++ z) (newOffset part-of) length-both, read-back z, own-head, append-assoc front records (points ++ z))
+          rw (written-is, points-stored, points-are, own-head, append-assoc front records (points ++ z))
           (over-front front (records ++ (points ++ z)) head (length-front ∙ sym length-of-head) ∙ sym (render-parts part-of z))
 
--- what was counted and measured, over the released file
-pub record Sized (sheet s : Bytes) (n : ℕ) (k : KeptRecords) (len : ℕ) : Type 0 where
+-- what was measured, over the released file
+pub record Sized (sheet s : Bytes) (table : List Bool) (k : KeptRecords) : Type 0 where
   pub offset : headerBlock + k .length ≡ newOffset (publicOf sheet s)
-  pub needed : headerBlock + k .length + n * len ≡ length (render (publicOf sheet s))
-  pub points : n ≡ length (publicOf sheet s .points)
+  pub needed : endOfPoints table s (headerBlock + k .length) ≡ length (render (publicOf sheet s))
+  pub points : length (keptIn table s) ≡ length (publicOf sheet s .points)
   pub records : k .count ≡ length (publicOf sheet s .records)
-  pub most : length (render (publicOf sheet s)) ≤ length s
+  pub most : headerBlock + k .length + pointCount s * recordLength s ≤ length s
 
 pub sized : (sheet s : Bytes) → AllBytes s → fileVerdict s ≡ Passes → (table : List Bool) → TableOf sheet table
-    → (n : ℕ) → n ≡ length (keptPoints table (format s) (pointCount s) (recordLength s) (drop (pointOffset s) s))
-    → (k : KeptRecords) → k ≡ measured (publicOf sheet s .records) → (len : ℕ) → len ≡ recordLength s → Sized sheet s n k len
+    → (k : KeptRecords) → k ≡ measured (publicOf sheet s .records) → Sized sheet s table k
 unfolding measured
-sized sheet s bytes passes table right n by k m len l =
-    let points : n ≡ length (publicOf sheet s .points) = by ∙ ap length (points-are sheet s bytes passes table right) in
+sized sheet s bytes passes table right k m =
+    let points : length (keptIn table s) ≡ length (publicOf sheet s .points) = ap length (points-are sheet s bytes passes table right) in
     let offset : headerBlock + k .length ≡ newOffset (publicOf sheet s) = rw (new-offset (publicOf sheet s)) (ap (λ (r : KeptRecords). headerBlock + r .length) m) in
     record {
       offset = offset;
-      needed = rw (offset, points, l) (sym (render-length sheet s bytes passes));
+      needed = rw (points-end, offset, points) (sym (render-length sheet s bytes passes));
       points = points;
       records = ap (λ (r : KeptRecords). r .count) m;
-      most = rw (length-render (publicOf sheet s) (sound-part sheet s bytes passes)) (no-longer s bytes (passed s passes) sheet);
+      most = rw offset (room-for-all s bytes (passed s passes) sheet);
     }

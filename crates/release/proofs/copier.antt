@@ -1,2 +1,3 @@
 mod FrontLaws
-mod CopyLaws
+mod ChosenLaws
+mod BlockLaws

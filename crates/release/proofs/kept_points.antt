@@ -1,2 +1,3 @@
 pub mod KeptPointLaws
 pub mod LoopLaws
+mod ChooseLaws

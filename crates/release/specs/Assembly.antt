@@ -1,15 +1,15 @@
 -- A released file as it is put together in the output.
 -- Assumes nothing.
-use Prim.Native.Nat.{ℕ, _-_}
-use mathlib.Core.Bool.{Bool}
+use Prim.Native.Nat.{ℕ, _+_, _-_, _*_, _≤_}
+use mathlib.Core.Bool.{Bool, cond}
 use mathlib.Core.List.{List, _++_}
 use lib.ListN.{length, take, drop}
+use lib.Dec.{leb}
 use lib.Seq.{sets}
 use Rattle.fields.specs.Bytes.{Bytes, join, zeros}
 use Rattle.lasfile.specs.Records.{recordsBytes}
 use Rattle.scaling.specs.Scaling.{scalingOf}
 use Rattle.lasfile.specs.HeaderFields.{headerBlock, pointOffset, format, recordLength, pointCount}
-use Rattle.points.specs.Raw.{pointsOf}
 use Rattle.publicpart.specs.Public.{publicOf}
 use Rattle.tally.specs.declared.Tally.{Tally}
 use Rattle.tally.specs.Tally.{tallyOf, tallyBounds}
@@ -17,9 +17,22 @@ use Rattle.release.specs.declared.head.HeadTotals.{HeadTotals}
 use Rattle.release.specs.Heads.{headBytes}
 use Rattle.release.specs.KeptPoints.{keptPoints}
 
--- the bytes of the points of a file that a table keeps
-unfoldable pub pointsBytes : List Bool → Bytes → Bytes
-pointsBytes table s = join (keptPoints table (format s) (pointCount s) (recordLength s) (drop (pointOffset s) s))
+-- the points of a file that a table keeps
+unfoldable pub keptIn : List Bool → Bytes → List Bytes
+keptIn table s = keptPoints table (format s) (pointCount s) (recordLength s) (drop (pointOffset s) s)
+
+-- the length of an output that ends with these points, where they begin at a place
+unfoldable pub endOfPoints : List Bool → Bytes → ℕ → ℕ
+endOfPoints table s start = start + length (keptIn table s) * recordLength s
+
+abbrev pub RoomFor : List Bool → Bytes → ℕ → ℕ → Type 0
+RoomFor table s start room = endOfPoints table s start ≤ room
+
+-- the room that is asked for: that of all the points of a file, where there is as much, and they need not be counted;
+-- else that of the kept ones
+unfoldable pub roomAsked : List Bool → Bytes → ℕ → ℕ → ℕ
+roomAsked table s start room =
+    let most : ℕ = start + pointCount s * recordLength s in cond (leb most room) most (endOfPoints table s start)
 
 -- the kept records directly after the header
 abbrev pub withRecords : Bytes → Bytes → Bytes → Bytes
@@ -28,7 +41,7 @@ withRecords sheet s out = sets out headerBlock (recordsBytes 2 (publicOf sheet s
 -- from a place on the kept points, and zeros behind them to the end
 unfoldable pub withPoints : List Bool → Bytes → ℕ → Bytes → Bytes
 withPoints table s start out =
-    take start out ++ take (length out - start) (pointsBytes table s ++ zeros (length out - start))
+    take start out ++ take (length out - start) (join (keptIn table s) ++ zeros (length out - start))
 
 -- what the header says of a tally, of a number of records and of the new point offset
 unfoldable pub totalsOf : Bytes → Tally → ℕ → ℕ → HeadTotals
@@ -41,17 +54,8 @@ totalsOf s t records start =
       bounds = tallyBounds t (scalingOf s);
     }
 
--- the same of the points that stand in an output from a place on
-abbrev pub totalsIn : Bytes → ℕ → ℕ → ℕ → Bytes → HeadTotals
-totalsIn s points records start out =
-    totalsOf s (tallyOf (format s) (pointsOf points (recordLength s) (drop start out))) records start
-
--- the header, of the points that stand in an output from a place on
-unfoldable pub withHead : Bytes → ℕ → ℕ → ℕ → Bytes → Bytes
-withHead s points records start out =
-    sets out 0 (headBytes s (totalsIn s points records start out))
-
 -- kept records, kept points from the new point offset on with zeros behind them, and the header of these
-unfoldable pub written : Bytes → Bytes → List Bool → ℕ → ℕ → ℕ → Bytes → Bytes
-written sheet s table points records start out =
-    withHead s points records start (withPoints table s start (withRecords sheet s out))
+unfoldable pub written : Bytes → Bytes → List Bool → ℕ → ℕ → Bytes → Bytes
+written sheet s table records start out =
+    sets (withPoints table s start (withRecords sheet s out)) 0
+    (headBytes s (totalsOf s (tallyOf (format s) (keptIn table s)) records start))

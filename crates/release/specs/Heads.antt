@@ -9,7 +9,7 @@ use Rattle.lasfile.specs.HeaderFields.{headerBlock}
 use Rattle.publicpart.specs.Bounds.{boundNumbers}
 use Rattle.publicpart.specs.Public.{carriedOf}
 use Rattle.publicpart.specs.Head.{Head, headFields, headWidths}
-use Rattle.tally.specs.Tally.{binNumbers}
+use Rattle.tally.specs.Bins.{binNumbers}
 use Rattle.release.specs.declared.head.HeadTotals.{HeadTotals}
 use Prim.Native.Nat.{ℕ, _+_}
 use lib.Seq.{sets}

@@ -1,12 +1,11 @@
--- The points of a run that a table of the classes keeps, and what it means that they stand in an output.
+-- The points of a run that a table of the classes keeps.
 -- Assumes nothing.
-use mathlib.Core.Path.{_≡_}
-use Prim.Native.Nat.{ℕ}
+use Prim.Native.Nat.{ℕ, _+_, _≤_}
 use mathlib.Core.Bool.{Bool}
-use mathlib.Core.List.{List}
-use lib.ListN.{length, take}
-use Rattle.fields.specs.Lists.{kept}
-use Rattle.fields.specs.Bytes.{Bytes, pieces}
+use mathlib.Core.List.{List, [], _∷_}
+use lib.ListN.{length}
+use Rattle.fields.specs.Lists.{All, kept}
+use Rattle.fields.specs.Bytes.{Bytes, part, pieces}
 use Rattle.points.specs.Raw.{pointsOf}
 use Rattle.sheet.specs.Keeping.{inTable}
 
@@ -14,10 +13,17 @@ use Rattle.sheet.specs.Keeping.{inTable}
 unfoldable pub keptPoints : List Bool → ℕ → ℕ → ℕ → Bytes → List Bytes
 keptPoints table f count len run = kept (inTable table f) (pointsOf count len run)
 
--- bytes stand at the front of an output as far as it has room for them, and r is how many they are
-abbrev pub AtFront : Bytes → Bytes → ℕ → Bytes → Type 0
-AtFront bytes before r after = (r ≡ length bytes) × (take r after ≡ take (length before) bytes)
-
 -- the kept records of a run that holds them all
 abbrev pub keptOf : List Bool → ℕ → ℕ → ℕ → Bytes → List Bytes
 keptOf table f count len run = kept (inTable table f) (pieces count len run)
+
+-- ---- records by their places
+
+-- the records of `len` bytes at these places of a run
+unfoldable pub picked : ℕ → Bytes → List ℕ → List Bytes
+picked len run [] = []
+picked len run (at ∷ places) = part at len run ∷ picked len run places
+
+-- each of these places has a record of `len` bytes
+abbrev pub Places : ℕ → Bytes → List ℕ → Type 0
+Places len run places = All (λ at. at + len ≤ length run) places

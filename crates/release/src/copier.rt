@@ -1,19 +1,80 @@
-// The point copier: writes the points that a table of the classes keeps.
+// The point copier: writes the points that a table of the classes keeps, and no byte of another, and tallies them.
 ghost use mathlib.Core.Path.{_≡_};
 ghost use mathlib.Core.List.{_++_};
-ghost use Prim.Native.Nat.{_*_, _≤_};
+ghost use Prim.Native.Nat.{_*_, _^_, _<_, _≤_, min};
 ghost use lib.ListN.{length, take};
+ghost use lib.Seq.{sets};
 ghost use Rattle.fields.specs.Bytes.{join, zeros};
-ghost use Rattle.release.specs.KeptPoints.{keptPoints, keptOf, AtFront};
+ghost use Rattle.tally.specs.Tally.{tallyOf};
+ghost use Rattle.release.specs.KeptPoints.{keptPoints, keptOf, picked, Places};
 use crate::kept_points;
+use crate::kept_points::BLOCK;
 use fields::copying;
 use fields::slices;
 use points::raw;
-use sheet::class_table;
+use tally::Tally;
 
-// Writes the kept points of a run that holds them all to the front of `out`, and says how many bytes they are. Each
-// record is written to where the next kept one goes, and the next goes behind it only where it is kept: there is no
-// branch on that.
+// Writes the records at the first k of the chosen places of a block to the front of `out`, one behind the other.
+fn copy_chosen(block: &[u8], record_length: usize, chosen: &[usize], k: usize, out: &mut [u8])
+    requires { ⌜ (k ≤ 64)
+        × (k ≤ length (now chosen))
+        × Places «record_length» (now block) (take k (now chosen))
+        × (k * «record_length» ≤ length (now out)) ⌝ }
+    ensures { λ _. ⌜ now (out .exit)
+        ≡ sets (now (out .entry)) 0
+        (join (picked «record_length» (now (block .entry)) (take k (now (chosen .entry))))) ⌝ }
+{
+    let mut to = 0;
+    let mut j = 0;
+    while j < k {
+        let from = chosen[j];
+        let end = from + record_length;
+        copying::copy_whole(&block[from..end], out, to);
+        to += record_length;
+        j += 1;
+    }
+}
+
+// Writes the kept records among the first n of a block to the front of `out`, and nothing else, and says how many they
+// are. Where all are kept they are one run.
+fn copy_block(
+    block: &[u8],
+    format: u8,
+    record_length: usize,
+    n: usize,
+    table: &[bool; 256],
+    chosen: &mut [usize],
+    out: &mut [u8],
+) -> usize
+    requires { ⌜ (n ≤ 64)
+        × (n ≤ length (now chosen))
+        × (n * «record_length» ≤ length (now block))
+        × (length (keptOf (now table) format n «record_length» (now block)) * «record_length» ≤ length (now out)) ⌝ }
+    ensures { λ r. ⌜
+        (r ≡ length (keptOf (now (table .entry)) format n «record_length» (now (block .entry))))
+        × (now (out .exit)
+        ≡ sets (now (out .entry)) 0
+        (join (keptOf (now (table .entry)) format n «record_length» (now (block .entry))))) ⌝ }
+{
+    let k = kept_points::choose(block, format, record_length, n, table, chosen);
+    if k == n {
+        let end = n * record_length;
+        copying::copy_whole(&block[..end], out, 0);
+    } else {
+        copy_chosen(block, record_length, chosen, k, out);
+    }
+    k
+}
+
+// How many of the records that are left are in the next block.
+fn in_block(left: usize) -> usize
+    ensures { λ r. ⌜ r ≡ min left 64 ⌝ }
+{
+    if left < BLOCK { left } else { BLOCK }
+}
+
+// Writes the kept points of a run that holds them all to the front of `out`, block by block, and nothing else, and
+// tallies the kept points of each block where they stand now, while they are in the nearest cache.
 fn copy_run(
     run: &[u8],
     format: u8,
@@ -21,25 +82,41 @@ fn copy_run(
     count: usize,
     table: &[bool; 256],
     out: &mut [u8],
-) -> usize
-    requires { ⌜ count * «record_length» ≤ length (now run) ⌝ }
+) -> Tally
+    requires { ⌜ (20 ≤ «record_length»)
+        × (count < 2 ^ 32)
+        × (count * «record_length» ≤ length (now run))
+        × (length (keptOf (now table) format count «record_length» (now run)) * «record_length»
+        ≤ length (now out)) ⌝ }
     ensures { λ r. ⌜
-        AtFront (join (keptOf (now (table .entry)) format count «record_length» (now (run .entry))))
-        (now (out .entry)) r (now (out .exit)) ⌝ }
+        (r ≡ tallyOf format (keptOf (now (table .entry)) format count «record_length» (now (run .entry))))
+        × (now (out .exit)
+        ≡ sets (now (out .entry)) 0
+        (join (keptOf (now (table .entry)) format count «record_length» (now (run .entry))))) ⌝ }
 {
+    let mut chosen = [0usize; 64];
+    let mut t = tally::fresh();
     let mut at = 0;
     let mut to = 0;
     let mut left = count;
     while 0 < left {
-        let next = at + record_length;
-        let point = &run[at..next];
-        let keep = class_table::in_table(table, format, point);
-        copying::copy(point, out, to);
-        to += kept_points::advance(keep, record_length);
+        let n = in_block(left);
+        let next = at + n * record_length;
+        let k = copy_block(
+            &run[at..next],
+            format,
+            record_length,
+            n,
+            table,
+            &mut chosen,
+            &mut out[to..],
+        );
+        t = tally::tally_more(t, &out[to..], format, record_length, k);
+        to += k * record_length;
         at = next;
-        left -= 1;
+        left -= n;
     }
-    to
+    t
 }
 
 // The same of any run: one that does not hold its records has no points.
@@ -50,20 +127,26 @@ fn copy_front(
     count: usize,
     table: &[bool; 256],
     out: &mut [u8],
-) -> usize
+) -> Tally
+    requires { ⌜
+        length (keptPoints (now table) format count «record_length» (now run)) * «record_length»
+        ≤ length (now out) ⌝ }
     ensures { λ r. ⌜
-        AtFront (join (keptPoints (now (table .entry)) format count «record_length» (now (run .entry))))
-        (now (out .entry)) r (now (out .exit)) ⌝ }
+        (r ≡ tallyOf format (keptPoints (now (table .entry)) format count «record_length» (now (run .entry))))
+        × (now (out .exit)
+        ≡ sets (now (out .entry)) 0
+        (join (keptPoints (now (table .entry)) format count «record_length» (now (run .entry))))) ⌝ }
 {
     if raw::holds(run.len(), record_length, count) {
         copy_run(run, format, record_length, count, table, out)
     } else {
-        0
+        tally::fresh()
     }
 }
 
-// Writes those of the first `count` records of `run`, `record_length` bytes each, that the table keeps, one after the
-// other, and zeros behind them, as far as `out` has room; zeros alone where the run does not hold the records.
+// Writes those of the first `count` records of `run`, `record_length` bytes each, that the table keeps, one behind the
+// other, and zeros behind them, and says their tally; `out` has room for them. A run that does not hold the records has
+// none.
 pub(crate) fn copy_points(
     run: &[u8],
     format: u8,
@@ -71,13 +154,20 @@ pub(crate) fn copy_points(
     count: usize,
     table: &[bool; 256],
     out: &mut [u8],
-)
-    ensures { λ _. ⌜ now (out .exit)
+) -> Tally
+    requires { ⌜
+        length (keptPoints (now table) format count «record_length» (now run)) * «record_length»
+        ≤ length (now out) ⌝ }
+    ensures { λ r. ⌜
+        (r ≡ tallyOf format (keptPoints (now (table .entry)) format count «record_length» (now (run .entry))))
+        × (now (out .exit)
         ≡ take (length (now (out .entry)))
         (join (keptPoints (now (table .entry)) format count «record_length» (now (run .entry)))
-        ++ zeros (length (now (out .entry)))) ⌝ }
+        ++ zeros (length (now (out .entry))))) ⌝ }
 {
     let room = out.len();
-    let to = copy_front(run, format, record_length, count, table, out);
+    let t = copy_front(run, format, record_length, count, table, out);
+    let to = (t.count as usize) * record_length;
     slices::zero(out, to, room);
+    t
 }

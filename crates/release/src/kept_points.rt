@@ -1,18 +1,51 @@
-// The points that a table of the classes keeps, and how many they are.
+// The points of a run that a table of the classes keeps: where they stand, and how many they are.
 // No loop over points branches on whether one is kept, since no processor can guess which way it goes.
 ghost use mathlib.Core.Path.{_≡_};
 ghost use mathlib.Core.Bool.{cond};
 ghost use Prim.Native.Nat.{_*_, _≤_};
-ghost use lib.ListN.{length};
-ghost use Rattle.release.specs.KeptPoints.{keptPoints, keptOf};
+ghost use lib.ListN.{length, take};
+ghost use Rattle.release.specs.KeptPoints.{keptPoints, keptOf, picked, Places};
 use points::raw;
 use sheet::class_table;
 
-// How far to go on where a point is kept, and where it is not. The compiler makes no branch of it.
-pub(crate) fn advance(keep: bool, n: usize) -> usize
-    ensures { λ r. ⌜ (r ≡ cond keep n 0) × (r ≤ n) ⌝ }
+// How many records are looked at before the kept ones among them are copied: 64 keep to the nearest cache.
+pub(crate) const BLOCK: usize = 64;
+
+// What a point counts. The compiler makes no branch of it.
+fn one_if(keep: bool) -> usize
+    ensures { λ r. ⌜ (r ≡ cond keep 1 0) × (r ≤ 1) ⌝ }
 {
-    if keep { n } else { 0 }
+    if keep { 1 } else { 0 }
+}
+
+// Puts the places of the kept records among the first n of a block into `chosen`, in order, and says how many they are.
+// Each place is put behind those chosen before, and stays there only where its record is kept.
+pub(crate) fn choose(
+    block: &[u8],
+    format: u8,
+    record_length: usize,
+    n: usize,
+    table: &[bool; 256],
+    chosen: &mut [usize],
+) -> usize
+    requires { ⌜
+        (n ≤ 64) × (n ≤ length (now chosen)) × (n * «record_length» ≤ length (now block)) ⌝ }
+    ensures { λ r. ⌜ (r ≤ n)
+        × (picked «record_length» (now (block .entry)) (take r (now (chosen .exit)))
+        ≡ keptOf (now (table .entry)) format n «record_length» (now (block .entry)))
+        × Places «record_length» (now (block .entry)) (take r (now (chosen .exit))) ⌝ }
+{
+    let mut at = 0;
+    let mut k = 0;
+    let mut left = n;
+    while 0 < left {
+        let next = at + record_length;
+        chosen[k] = at;
+        k += one_if(class_table::in_table(table, format, &block[at..next]));
+        at = next;
+        left -= 1;
+    }
+    k
 }
 
 // Counts the kept points of a run that holds them all.
@@ -31,8 +64,7 @@ fn count_run(
     let mut left = count;
     while 0 < left {
         let next = at + record_length;
-        let point = &run[at..next];
-        n += advance(class_table::in_table(table, format, point), 1);
+        n += one_if(class_table::in_table(table, format, &run[at..next]));
         at = next;
         left -= 1;
     }

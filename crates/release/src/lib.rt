@@ -7,11 +7,33 @@ mod kept_points;
 mod vlrs;
 
 ghost use mathlib.Core.Path.{_≡_};
+ghost use Prim.Native.Nat.{_+_, _*_, _^_, _<_};
+ghost use Rattle.lasfile.specs.HeaderFields.{pointCount, recordLength};
 ghost use Rattle.publicpart.specs.Release.{release};
+ghost use Rattle.release.specs.Assembly.{roomAsked};
 use fields::Verdict;
+use fields::slices;
 use lasfile::header;
 use publicpart::Answer;
 use sheet::class_table;
+
+// The room that an output must have for points from `start` on. Where it has room for all the points of the file there
+// is none too few, and they are not counted: their number comes out of the writing.
+fn room_for(file: &[u8], table: &[bool; 256], start: usize, room: usize) -> usize
+    requires { ⌜ start + pointCount (now file) * recordLength (now file) < 2 ^ 64 ⌝ }
+    ensures { λ r. ⌜ r ≡ roomAsked (now (table .entry)) (now (file .entry)) start room ⌝ }
+{
+    let offset = header::point_offset(file);
+    let format = header::format(file);
+    let record_length = header::record_length(file);
+    let count = header::point_count(file);
+    let most = start + count * record_length;
+    if most <= room {
+        return most;
+    }
+    let run = slices::part_at(file, offset, file.len());
+    start + kept_points::count_points(run, format, record_length, count, table) * record_length
+}
 
 // Releases what a sheet keeps of a file. Everything that can refuse is decided before the first byte is written.
 pub fn release(file: &[u8], sheet: &[u8], out: &mut [u8]) -> Answer
@@ -25,19 +47,18 @@ pub fn release(file: &[u8], sheet: &[u8], out: &mut [u8]) -> Answer
     if let Verdict::Fails(n) = sheet_verdict {
         return Answer::Refused(n);
     }
-    let offset = header::point_offset(file);
-    let format = header::format(file);
-    let record_length = header::record_length(file);
-    let count = header::point_count(file);
     let table = class_table::class_table(sheet);
-    let points = kept_points::count_points(&file[offset..], format, record_length, count, &table);
     let kept = vlrs::measure(file, sheet);
     let records = kept.count;
     let start = header::HEADER_BLOCK + kept.length;
-    let needed = start + points * record_length;
+    let needed = room_for(file, &table, start, out.len());
     if out.len() < needed {
         return Answer::Short(needed);
     }
-    assembly::write(file, sheet, &table, points, records, start, out);
-    Answer::Released(needed, points, records)
+    let points = assembly::write(file, sheet, &table, records, start, out);
+    Answer::Released(
+        start + points * header::record_length(file),
+        points,
+        records,
+    )
 }

@@ -1,36 +1,102 @@
--- Laws of points that are put into an output: one that does not reach them, and the part of one that was lent and is
--- back.
+-- Laws of the kept points of a file: how many they can be, what room they take, and the part of an output that was lent
+-- for them and is back.
 -- Assumes nothing.
-use mathlib.Core.Path.{_≡_, refl}
-use Prim.Native.Nat.{ℕ, _-_, _≤_}
+use mathlib.Core.Path.{_≡_, refl, _∙_}
+use Prim.Native.Nat.{ℕ, _+_, _-_, _*_, _≤_, _<_}
+use native.Mathlib.Nat.{mul-le-mul-right}
 use native.Mathlib.Omega.{arith}
-use mathlib.Core.Bool.{Bool}
+use mathlib.Core.Bool.{Bool, true, false, cond}
 use mathlib.Core.List.{List, [], _++_, append-nil}
 use lib.ListN.{length, take, drop, length-drop, drop-of-length-le}
-use lib.Seq.{take-all}
-use Rattle.fields.specs.Bytes.{Bytes, join, zeros}
+use lib.Dec.{leb}
+use borrow.Author.Tests.{leb-true, le-leb, lt-leb}
+use Rattle.fields.specs.Lists.{listIf}
+use Rattle.fields.specs.Bytes.{Bytes, join, pieces, zeros}
+use Rattle.fields.proofs.ByteLaws.{length-pieces}
+use Rattle.fields.proofs.ListLaws.{length-kept}
 use Rattle.fields.proofs.StoreLaws.{tail-part}
 use Rattle.lasfile.specs.HeaderFields.{pointOffset, format, recordLength, pointCount}
-use Rattle.release.specs.Assembly.{pointsBytes, withPoints}
+use Rattle.points.specs.Raw.{inRun, pointsOf}
+use Rattle.sheet.specs.Keeping.{inTable}
+use Rattle.release.specs.Assembly.{keptIn, endOfPoints, roomAsked, RoomFor, withPoints}
 use Rattle.release.specs.KeptPoints.{keptPoints}
 
-module _ (table : List Bool) (s : Bytes) (start : ℕ) (out : Bytes) where
-  pub with-points : withPoints table s start out
-      ≡ take start out ++ take (length out - start) (join (keptPoints table (format s) (pointCount s) (recordLength s) (drop (pointOffset s) s)) ++ zeros (length out - start))
-  unfolding withPoints pointsBytes
-  with-points = refl
+-- ---- how many
 
-  pub not-reached : length out ≤ start → withPoints table s start out ≡ out
-  unfolding withPoints
-  not-reached h = let none : length out - start ≡ 0 = omega arith in rw (none, append-nil, take-all start out h)
+few-held : (b : Bool) (count len : ℕ) (run : Bytes) → length (listIf b (pieces count len run)) ≤ count
+unfolding listIf
+few-held true count len run = omega (arith, length-pieces count len run)
+few-held false count len run = omega arith
 
-  -- the part that is lent
-  abbrev lent : Bytes
-  lent = take (length out - start) (drop start out)
+few-points : (count len : ℕ) (run : Bytes) → length (pointsOf count len run) ≤ count
+unfolding pointsOf
+few-points count len run = few-held (inRun count len (length run)) count len run
 
-  pub points-back : (ys : Bytes) → ys ≡ take (length lent) (pointsBytes table s ++ zeros (length lent))
-      → take start out ++ (ys ++ drop (length out - start) (drop start out)) ≡ withPoints table s start out
-  unfolding withPoints
-  points-back ys e =
-      let none : drop (length out - start) (drop start out) ≡ [] = drop-of-length-le (drop start out) {i = length out - start} (simp length-drop (omega arith)) in
-      rw (e, none, append-nil, tail-part out start, length-drop start out)
+module _ (table : List Bool) (s : Bytes) where
+  pub kept-in : keptIn table s ≡ keptPoints table (format s) (pointCount s) (recordLength s) (drop (pointOffset s) s)
+  unfolding keptIn
+  kept-in = refl
+
+  few-kept : length (keptIn table s) ≤ pointCount s
+  unfolding keptIn keptPoints
+  few-kept =
+      let ps : List Bytes = pointsOf (pointCount s) (recordLength s) (drop (pointOffset s) s) in
+      omega (arith, length-kept (inTable table (format s)) ps, few-points (pointCount s) (recordLength s) (drop (pointOffset s) s))
+
+  -- ---- what room they take
+
+  module _ (start : ℕ) where
+    pub points-end : endOfPoints table s start ≡ start + length (keptIn table s) * recordLength s
+    unfolding endOfPoints
+    points-end = refl
+
+    -- no more than all the points of the file
+    pub end-most : endOfPoints table s start ≤ start + pointCount s * recordLength s
+    end-most = omega (arith, points-end, mul-le-mul-right (recordLength s) few-kept)
+
+    module _ (room : ℕ) where
+      abbrev most : ℕ
+      most = start + pointCount s * recordLength s
+
+      -- what is asked for where there is room for all, and where the kept ones are counted
+      pub asked-most : most ≤ room → most ≡ roomAsked table s start room
+      unfolding roomAsked
+      asked-most h = rw (le-leb most room h)
+
+      pub asked-counted : room < most → endOfPoints table s start ≡ roomAsked table s start room
+      unfolding roomAsked
+      asked-counted h = rw (lt-leb most room h)
+
+      by-test : (b : Bool) → leb most room ≡ b → cond b most (endOfPoints table s start) ≤ room → RoomFor table s start room
+      by-test true e h = omega (arith, h, end-most)
+      by-test false e h = h
+
+      -- an output that has the room that is asked for has room for the kept points
+      pub asked-enough : roomAsked table s start room ≤ room → RoomFor table s start room
+      unfolding roomAsked
+      asked-enough h = by-test (leb most room) refl h
+
+      -- one that has not is asked for exactly what they take
+      short-by : (b : Bool) → leb most room ≡ b → room < cond b most (endOfPoints table s start) → cond b most (endOfPoints table s start) ≡ endOfPoints table s start
+      short-by true e h = absurd (omega (arith, leb-true most room e))
+      short-by false e h = refl
+
+      pub asked-short : room < roomAsked table s start room → roomAsked table s start room ≡ endOfPoints table s start
+      unfolding roomAsked
+      asked-short h = short-by (leb most room) refl h
+
+  -- ---- the part of an output that is lent
+
+  module _ (start : ℕ) (out : Bytes) where
+    pub with-points : withPoints table s start out ≡ take start out ++ take (length out - start) (join (keptIn table s) ++ zeros (length out - start))
+    unfolding withPoints
+    with-points = refl
+
+    abbrev lent : Bytes
+    lent = take (length out - start) (drop start out)
+
+    pub points-back : (ys : Bytes) → ys ≡ take (length lent) (join (keptIn table s) ++ zeros (length lent))
+        → take start out ++ (ys ++ drop (length out - start) (drop start out)) ≡ withPoints table s start out
+    points-back ys e =
+        let none : drop (length out - start) (drop start out) ≡ [] = drop-of-length-le (drop start out) {i = length out - start} (simp length-drop (omega arith)) in
+        rw (with-points, e, none, append-nil, tail-part out start, length-drop start out)

@@ -17,7 +17,7 @@ use Rattle.publicpart.specs.Bounds.{boundNumbers}
 use Rattle.publicpart.specs.Head.{headWidths, headFields}
 use Rattle.publicpart.proofs.PublicLaws.{carried-ids, carried-system, carried-software, carried-scaling}
 use Rattle.publicpart.proofs.HeadLaws.{Fitting, head-fits}
-use Rattle.tally.specs.Tally.{binNumbers}
+use Rattle.tally.specs.Bins.{binNumbers}
 use Rattle.release.specs.declared.head.HeadTotals.{HeadTotals}
 use Rattle.release.specs.Heads.{headWith, headBytes, fieldsStored}
 use Rattle.release.proofs.head.FieldStores.{stores-join}

@@ -1,14 +1,16 @@
--- Laws of the kept points of a run: one that holds all the records, and one that does not.
+-- Laws of the kept points of a run: one that holds all the records, one that does not, and the bytes of either.
 -- Assumes nothing.
-use mathlib.Core.Path.{_≡_}
-use Prim.Native.Nat.{ℕ}
-use mathlib.Core.Bool.{Bool, false}
+use mathlib.Core.Path.{_≡_, refl}
+use Prim.Native.Nat.{ℕ, _*_}
+use mathlib.Core.Bool.{Bool, true, false}
 use mathlib.Core.List.{List, []}
 use lib.ListN.{length}
-use Rattle.fields.specs.Lists.{kept}
-use Rattle.fields.specs.Bytes.{Bytes, pieces}
+use Rattle.fields.specs.Lists.{All, kept}
+use Rattle.fields.specs.Bytes.{Bytes, join, pieces}
+use Rattle.fields.proofs.ByteLaws.{pieces-width, length-join-pieces}
+use Rattle.fields.proofs.ListLaws.{All-kept}
 use Rattle.points.specs.Raw.{inRun}
-use Rattle.points.proofs.raw.RunLaws.{InRun, points-held, points-none}
+use Rattle.points.proofs.raw.RunLaws.{InRun, in-run, points-held, points-none}
 use Rattle.sheet.specs.Keeping.{inTable}
 use Rattle.release.specs.KeptPoints.{keptPoints}
 
@@ -20,3 +22,15 @@ kept-held table f count len run h = rw (points-held count len run h)
 pub kept-none : (table : List Bool) (f count len : ℕ) (run : Bytes) → inRun count len (length run) ≡ false → keptPoints table f count len run ≡ []
 unfolding keptPoints kept
 kept-none table f count len run e = rw (points-none count len run e)
+
+-- each has the record length
+widths : (table : List Bool) (f count len : ℕ) (run : Bytes) (b : Bool) → inRun count len (length run) ≡ b → All (λ p. length p ≡ len) (keptPoints table f count len run)
+widths table f count len run true e =
+    let h = in-run count len (length run) e in
+    rw (kept-held table f count len run h) (All-kept (λ p. length p ≡ len) (inTable table f) (pieces count len run) (pieces-width count len run (h .within)))
+widths table f count len run false e = rw (kept-none table f count len run e) tt
+
+pub length-kept-points : (table : List Bool) (f count len : ℕ) (run : Bytes)
+    → length (join (keptPoints table f count len run)) ≡ length (keptPoints table f count len run) * len
+length-kept-points table f count len run =
+    length-join-pieces len (keptPoints table f count len run) (widths table f count len run (inRun count len (length run)) refl)

@@ -1,73 +1,174 @@
--- `copier::copy_run` meets its contract. The loop's invariant is `Copied`. Assumes nothing.
-use mathlib.Core.Path.{_≡_, ap, _∙_}
-use Prim.Native.Nat.{_+_, _-_, _≤_}
+-- `copier::copy_run` meets its contract. The loop's invariant is `Blocked`. Assumes nothing.
+use mathlib.Core.Path.{_≡_, refl, sym, ap, _∙_}
+use Prim.Native.Nat.{ℕ, _+_, _-_, _*_, _^_, _≤_, _<_}
 use native.Mathlib.Omega.{arith}
 use borrow.Author.Needs.{needs}
 use denote.Ref.{now}
-use lib.ListN.{length, take, drop}
-use lib.Seq.{sets}
+use mathlib.Core.List.{List, _++_}
+use lib.ListN.{length, take, drop, length-drop}
+use lib.Seq.{sets, length-take-le, length-sets}
+use Rattle.fields.specs.Bytes.{Bytes, join}
+use Rattle.fields.proofs.StoreLaws.{tail-part, lent-back}
 use Rattle.sheet.specs.Keeping.{inTable}
-use Rattle.release.proofs.kept_points.LoopLaws.{lent-record, ends}
-use Rattle.release.proofs.copier.CopyLaws.{Copied, copy-begun, copy-next, copy-ended}
+use Rattle.points.specs.Raw.{pointsOf}
+use Rattle.tally.specs.Tally.{tallyMore}
+use Rattle.release.specs.KeptPoints.{keptOf}
+use Rattle.release.proofs.copier.BlockLaws.{Blocked, blocks-begun, block-in, block-room, block-few, blocks-next, blocks-done}
 use Rattle.release.proofs.copier.copy_run.Statement.{statement}
 use Rattle.release.proofs.copier.copy_run.Tie as tie
 
 abbrev Inv-loop : tie.InvT-loop
-Inv-loop run format record-length count table out₀ at₀ to₀ left₀ out at to left = Copied (inTable table format) record-length count run out₀ out left at to
+Inv-loop run format record-length count table out₀ chosen₀ t₀ at₀ to₀ left₀ out chosen t at to left =
+    Blocked (inTable table format) format record-length count run out₀ out left at to t × (length chosen ≡ 64)
 
 abbrev μ-loop : tie.MeasureT-loop
-μ-loop run format record-length count table out₀ at₀ to₀ left₀ out at to left = left
+μ-loop run format record-length count table out₀ chosen₀ t₀ at₀ to₀ left₀ out chosen t at to left = left
 
 loop-holds : tie.Need-loop-holds Inv-loop μ-loop
-loop-holds c = copy-begun _ _ _ _ _ (c .before .before .pre)
+loop-holds c =
+    let s = c .before .before .before in
+    (blocks-begun _ _ _ _ _ _ (s .pre .3) (s .pre .1) (s .pre .0) _ (c .fresh .ensures) (s .pre .2), refl)
 
--- in a turn the next record lies in the run
-inside : (c : tie.In-loop Inv-loop μ-loop) → c .before .loop .at + c .before .before .before .before .args .record-length ≤ length (now (c .before .before .before .before .args .run))
-inside c = omega (arith, ends _ _ _ _ _ (c .before .loop .left) (c .before .loop .at) (c .loop-test .taken) (c .before .loop .inv .looked))
+-- in a turn the block is of some of the records that are left
+some : (c : tie.After-in-block Inv-loop μ-loop) → (0 < c .in-block .result) × (c .in-block .result ≤ c .before .before .loop .left) × (c .in-block .result ≤ 64)
+some c = omega (arith, c .in-block .ensures, c .before .loop-test .taken)
+
+-- it lies in the run
+inside : (c : tie.After-in-block Inv-loop μ-loop) → c .before .before .loop .at + c .in-block .result * c .before .before .before .before .before .before .args .record-length ≤ length (now (c .before .before .before .before .before .before .args .run))
+inside c =
+    let s = c .before .before .before .before .before .before in
+    let l = c .before .before .loop in
+    block-in _ _ _ _ _ _ (s .pre .3) (s .pre .1) (s .pre .0) (l .out) (l .left) (l .at) (l .to) (l .t) (l .inv .0) (c .in-block .result) (some c .1)
+
+-- as it is lent
+lent : (at m : ℕ) (run : Bytes) → take (at + m - at) (drop at run) ≡ take m (drop at run)
+lent at m run = let e : at + m - at ≡ m = omega arith in rw e
+
+-- what is kept of it
+abbrev block-kept : tie.After-in-block Inv-loop μ-loop → List Bytes
+block-kept c =
+    let a = c .before .before .before .before .before .before .args in
+    let n = c .in-block .result in
+    keptOf (now (a .table)) (a .format) n (a .record-length) (take (n * a .record-length) (drop (c .before .before .loop .at) (now (a .run))))
+
+-- there is room for it
+fits : (c : tie.After-in-block Inv-loop μ-loop) → c .before .before .loop .to + length (block-kept c) * c .before .before .before .before .before .before .args .record-length ≤ length (now (c .before .before .before .before .before .before .args .out))
+fits c =
+    let s = c .before .before .before .before .before .before in
+    let l = c .before .before .loop in
+    block-room _ _ _ _ _ _ (s .pre .3) (s .pre .1) (s .pre .0) (l .out) (l .left) (l .at) (l .to) (l .t) (l .inv .0) (c .in-block .result) (some c .1)
+
+small : (c : tie.After-in-block Inv-loop μ-loop) → c .before .before .loop .to + length (block-kept c) * c .before .before .before .before .before .before .args .record-length < 2 ^ 64
+small c = omega (arith, fits c)
+
+mul-next : tie.Need-mul-next Inv-loop μ-loop
+mul-next c = omega (arith, inside c)
 
 add-next : tie.Need-add-next Inv-loop μ-loop
 add-next c = omega (arith, inside c)
 
-sub-point : tie.Need-sub-point Inv-loop μ-loop
-sub-point c = search needs
+sub-copy-block : tie.Need-sub-copy-block Inv-loop μ-loop
+sub-copy-block c = search needs
 
-part-point-start : tie.Need-part-point-start Inv-loop μ-loop
-part-point-start c = search needs
+part-copy-block-start : tie.Need-part-copy-block-start Inv-loop μ-loop
+part-copy-block-start c = search needs
 
-part-point-end : tie.Need-part-point-end Inv-loop μ-loop
-part-point-end c = omega (arith, inside c)
+part-copy-block-end : tie.Need-part-copy-block-end Inv-loop μ-loop
+part-copy-block-end c = omega (arith, inside c)
+
+slice-aggregate-copy-block : tie.Need-slice-aggregate-copy-block Inv-loop μ-loop
+slice-aggregate-copy-block c = sym (c .before .before .before .before .loop .inv .1)
+
+sub-copy-block-2 : tie.Need-sub-copy-block-2 Inv-loop μ-loop
+sub-copy-block-2 c = let l = c .before .before .before .before .loop in omega (arith, fits (c .before .before), l .inv .0 .same)
+
+part-copy-block-start-2 : tie.Need-part-copy-block-start-2 Inv-loop μ-loop
+part-copy-block-start-2 c = let l = c .before .before .before .before .loop in omega (arith, fits (c .before .before), l .inv .0 .same)
+
+part-copy-block-end-2 : tie.Need-part-copy-block-end-2 Inv-loop μ-loop
+part-copy-block-end-2 c = search needs
+
+copy-block-requires : tie.Need-copy-block-requires Inv-loop μ-loop
+copy-block-requires c κs =
+    let turn = c .before .before .before in
+    let a = turn .before .before .before .before .before .before .args in
+    let l = turn .before .before .loop in
+    let n = turn .in-block .result in
+    let few = some turn in
+    let long : length (take (n * a .record-length) (drop (l .at) (now (a .run)))) ≡ n * a .record-length = length-take-le (n * a .record-length) (drop (l .at) (now (a .run))) (simp length-drop (omega (arith, inside turn))) in
+    rw (lent (l .at) (n * a .record-length) (now (a .run)), tail-part (l .out) (l .to), length-drop)
+    (few .2, omega (arith, few, l .inv .1), omega (arith, long), omega (arith, fits turn, l .inv .0 .same))
+
+-- the output after the block
+abbrev after : tie.After-slice-known2 Inv-loop μ-loop → Bytes
+after d =
+    let l = d .before .before .before .before .before .before .before .before .before .loop in
+    take (l .to) (l .out) ++ (d .before .before .before .copy-block .last .1 .1 .1 .1 .1 .1 .0 ++ drop (length (l .out) - l .to) (drop (l .to) (l .out)))
+
+copied : (d : tie.After-slice-known2 Inv-loop μ-loop) → d .before .before .before .copy-block .result ≡ length (block-kept (d .before .before .before .before .before .before .before))
+copied d =
+    let turn = d .before .before .before .before .before .before .before in
+    let a = turn .before .before .before .before .before .before .args in
+    let n = turn .in-block .result in
+    d .before .before .before .copy-block .ensures .0
+    ∙ ap (λ (x : Bytes). length (keptOf (now (a .table)) (a .format) n (a .record-length) x)) (lent (turn .before .before .loop .at) (n * a .record-length) (now (a .run)))
+
+stands : (d : tie.After-slice-known2 Inv-loop μ-loop) → after d ≡ sets (d .before .before .before .before .before .before .before .before .before .loop .out) (d .before .before .before .before .before .before .before .before .before .loop .to) (join (block-kept (d .before .before .before .before .before .before .before)))
+stands d =
+    let turn = d .before .before .before .before .before .before .before in
+    let a = turn .before .before .before .before .before .before .args in
+    let l = turn .before .before .loop in
+    let n = turn .in-block .result in
+    lent-back (l .out) _ (l .to) (join (block-kept turn))
+    (d .before .before .before .copy-block .ensures .1
+    ∙ ap (λ (x : Bytes). sets (take (length (l .out) - l .to) (drop (l .to) (l .out))) 0 (join (keptOf (now (a .table)) (a .format) n (a .record-length) x))) (lent (l .at) (n * a .record-length) (now (a .run))))
+
+long-after : (d : tie.After-slice-known2 Inv-loop μ-loop) → length (after d) ≡ length (now (d .before .before .before .before .before .before .before .before .before .before .before .before .before .args .out))
+long-after d = rw (stands d, length-sets) (d .before .before .before .before .before .before .before .before .before .loop .inv .0 .same)
+
+sub-tally-more : tie.Need-sub-tally-more Inv-loop μ-loop
+sub-tally-more c = omega (arith, long-after c, fits (c .before .before .before .before .before .before .before))
+
+part-tally-more-start : tie.Need-part-tally-more-start Inv-loop μ-loop
+part-tally-more-start c = omega (arith, long-after (c .before), fits (c .before .before .before .before .before .before .before .before))
+
+part-tally-more-end : tie.Need-part-tally-more-end Inv-loop μ-loop
+part-tally-more-end c = search needs
+
+mul-to : tie.Need-mul-to Inv-loop μ-loop
+mul-to c = let d = c .before .before .before in rw (copied d) (omega (arith, small (d .before .before .before .before .before .before .before)))
 
 add-to : tie.Need-add-to Inv-loop μ-loop
-add-to c =
-    let turn = c .before .before .before .before .before .before .before in
-    omega (arith, inside turn, turn .before .loop .inv .behind, c .advance .ensures .1)
+add-to c = let d = c .before .before .before in rw (copied d) (omega (arith, small (d .before .before .before .before .before .before .before)))
 
 sub-left : tie.Need-sub-left Inv-loop μ-loop
-sub-left c = omega arith
+sub-left c = some (c .before .before .before .before .before .before .before .before .before .before) .1
 
 loop-less : tie.Need-loop-less Inv-loop μ-loop
-loop-less c = omega arith
+loop-less c = let few = some (c .before .before .before .before .before .before .before .before .before .before) in omega (arith, few .0, few .1)
 
 loop-again : tie.Need-loop-again Inv-loop μ-loop
 loop-again c =
-    let turn = c .before .before .before .before .before .before .before in
-    let a = turn .before .before .before .before .args in
-    let l = turn .before .loop in
-    let keep = inTable (now (a .table)) (a .format) in
-    let lent = take (l .at + a .record-length - l .at) (drop (l .at) (now (a .run))) in
-    let kept : c .before .before .before .before .before .in-table .result ≡ keep lent = c .before .before .before .before .before .in-table .ensures in
-    let point = lent-record (l .at) (a .record-length) (now (a .run)) in
-    rw (c .advance .ensures .0)
-    (copy-next keep (a .record-length) (a .count) (now (a .run)) (now (a .out)) (l .out) (l .left) (l .at) (l .to) (l .inv) (turn .loop-test .taken) _
-    (kept ∙ ap keep point) _ (c .before .before .before .copy .ensures ∙ ap (sets (l .out) (l .to)) point))
+    let d = c .before .before .before in
+    let turn = d .before .before .before .before .before .before .before in
+    let s = turn .before .before .before .before .before .before in
+    let a = s .args in
+    let l = turn .before .before .loop in
+    let more : c .tally-more .result ≡ tallyMore (a .format) (l .t) (pointsOf (length (block-kept turn)) (a .record-length) (drop (l .to) (after d))) =
+    rw (copied d, tail-part (after d) (l .to)) at (c .tally-more .ensures) in
+    rw (copied d) (
+      blocks-next _ _ _ _ _ _ (s .pre .3) (s .pre .1) (s .pre .0) (l .out) (l .left) (l .at) (l .to) (l .t) (l .inv .0) (turn .in-block .result) (some turn .1) (after d) (stands d) _ more,
+      d .before .before .before .copy-block .kept .1 .1 .1 .1 .1 .0 ∙ l .inv .1,
+    )
 
 same-length : tie.Need-same-length Inv-loop μ-loop
-same-length c = c .before .loop .inv .same
+same-length c = c .before .loop .inv .0 .same
 
 returns : tie.Need-returns Inv-loop μ-loop
 returns c =
+    let s = c .before .before .before .before .before in
     let l = c .before .loop in
-    copy-ended _ _ _ _ _ (l .out) (l .left) (l .at) (l .to) (omega arith) (l .inv)
+    blocks-done _ _ _ _ _ _ (s .pre .3) (s .pre .1) (s .pre .0) (l .out) (l .left) (l .at) (l .to) (l .t) (omega arith) (l .inv .0)
 
 pub copy-run-spec : {M : Type 1} → statement M
 copy-run-spec =
@@ -75,14 +176,24 @@ copy-run-spec =
     (tie.spec
     Inv-loop
     μ-loop
+    (λ c κs. tt)
     loop-holds
+    (λ c κs. tt)
+    mul-next
     add-next
-    sub-point
-    part-point-start
-    part-point-end
+    sub-copy-block
+    part-copy-block-start
+    part-copy-block-end
+    slice-aggregate-copy-block
+    sub-copy-block-2
+    part-copy-block-start-2
+    part-copy-block-end-2
+    copy-block-requires
+    sub-tally-more
+    part-tally-more-start
+    part-tally-more-end
     (λ c κs. tt)
-    (λ c κs. tt)
-    (λ c κs. tt)
+    mul-to
     add-to
     sub-left
     loop-less

@@ -7,7 +7,7 @@ use Rattle.fields.proofs.arrays.NumberLaws.{stored-next}
 use Rattle.lasfile.specs.HeaderFields.{headerBlock}
 use Rattle.publicpart.specs.Head.{headWidths, headFields}
 use Rattle.publicpart.proofs.PublicLaws.{carried-day, carried-year, carried-format, carried-length}
-use Rattle.tally.specs.Tally.{binNumbers}
+use Rattle.tally.specs.Bins.{binNumbers}
 use Rattle.release.specs.Heads.{headWith}
 use Rattle.release.proofs.head.FieldStores.{_▸_, all-stored, each-stored}
 use borrow.Author.Needs.{needs}

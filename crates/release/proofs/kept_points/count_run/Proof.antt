@@ -26,20 +26,20 @@ inside c = omega (arith, ends _ _ _ _ _ (c .before .loop .left) (c .before .loop
 add-next : tie.Need-add-next Inv-loop μ-loop
 add-next c = omega (arith, inside c)
 
-sub-point : tie.Need-sub-point Inv-loop μ-loop
-sub-point c = search needs
+sub-in-table : tie.Need-sub-in-table Inv-loop μ-loop
+sub-in-table c = search needs
 
-part-point-start : tie.Need-part-point-start Inv-loop μ-loop
-part-point-start c = search needs
+part-in-table-start : tie.Need-part-in-table-start Inv-loop μ-loop
+part-in-table-start c = search needs
 
-part-point-end : tie.Need-part-point-end Inv-loop μ-loop
-part-point-end c = omega (arith, inside c)
+part-in-table-end : tie.Need-part-in-table-end Inv-loop μ-loop
+part-in-table-end c = omega (arith, inside c)
 
 add-n : tie.Need-add-n Inv-loop μ-loop
 add-n c =
     let turn = c .before .before .before in
     let l = turn .before .loop in
-    omega (arith, l .inv .few, c .advance .ensures .1, turn .loop-test .taken)
+    omega (arith, l .inv .few, c .one-if .ensures .1, turn .loop-test .taken)
 
 sub-left : tie.Need-sub-left Inv-loop μ-loop
 sub-left c = omega arith
@@ -55,7 +55,7 @@ loop-again c =
     let keep = inTable (now (a .table)) (a .format) in
     let lent = take (l .at + a .record-length - l .at) (drop (l .at) (now (a .run))) in
     let kept : c .before .in-table .result ≡ keep lent = c .before .in-table .ensures in
-    rw (c .advance .ensures .0)
+    rw (c .one-if .ensures .0)
     (count-next keep (a .record-length) (a .count) (now (a .run)) (l .left) (l .at) (l .n) (turn .loop-test .taken) (l .inv) _
     (kept ∙ ap keep (lent-record (l .at) (a .record-length) (now (a .run)))))
 
@@ -72,9 +72,9 @@ count-run-spec =
     μ-loop
     loop-holds
     add-next
-    sub-point
-    part-point-start
-    part-point-end
+    sub-in-table
+    part-in-table-start
+    part-in-table-end
     (λ c κs. tt)
     (λ c κs. tt)
     add-n

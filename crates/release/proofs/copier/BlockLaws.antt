@@ -1,0 +1,190 @@
+-- A block of records of which the kept ones are copied, and the loop over the blocks of a run, apart from any code: what
+-- holds at the start, after a turn, and at the end.
+-- Assumes nothing.
+use mathlib.Core.Path.{_≡_, refl, sym, ap, _∙_}
+use Prim.Native.Nat.{ℕ, zero, suc, _+_, _-_, _*_, _^_, _≤_, _<_}
+use native.Mathlib.Omega.{arith}
+use native.Mathlib.Nat.{suc-mul, add-mul}
+use mathlib.Core.Bool.{Bool, true, false}
+use mathlib.Core.List.{List, [], _∷_, _++_, append-assoc}
+use lib.ListN.{length, take, drop, length-append, length-drop}
+use lib.Seq.{sets, length-sets, length-take-le, take-add, take-take, drop-drop, take-nil, sets-eq, drop-at}
+use Rattle.fields.specs.Lists.{All, kept, consIf}
+use Rattle.fields.specs.Bytes.{Bytes, part, pieces, join}
+use Rattle.fields.proofs.ByteLaws.{length-pieces, pieces-width, length-join-pieces, pieces-back}
+use Rattle.fields.proofs.ListLaws.{length-kept, kept-append, All-kept}
+use Rattle.fields.proofs.StoreLaws.{sets-append}
+use Rattle.points.specs.Raw.{pointsOf}
+use Rattle.points.proofs.raw.RunLaws.{points-held}
+use Rattle.tally.specs.declared.Tally.{Tally}
+use Rattle.tally.specs.Tally.{noTally, tallyOf, tallyMore}
+use Rattle.tally.proofs.CountLaws.{more-of}
+use Rattle.release.specs.KeptPoints.{picked}
+use Rattle.release.proofs.kept_points.LoopLaws.{Looked, begun, done-all}
+
+-- ---- a block
+
+length-picked : (w : ℕ) (run : Bytes) (ps : List ℕ) → length (picked w run ps) ≡ length ps
+unfolding picked
+length-picked w run [] = refl
+length-picked w run (x ∷ xs) = rw (length-picked w run xs)
+
+-- as many were chosen as are kept
+pub chosen-count : (w : ℕ) (run : Bytes) (chosen : List ℕ) (k : ℕ) (ks : List Bytes) → k ≤ length chosen → picked w run (take k chosen) ≡ ks → k ≡ length ks
+chosen-count w run chosen k ks h e = rw (← e, length-picked, length-take-le k chosen h)
+
+-- where as many are kept as there are, all are
+kept-whole : (p : Bytes → Bool) (l : List Bytes) → length (kept p l) ≡ length l → kept p l ≡ l
+unfolding kept consIf
+kept-whole p [] e = refl
+kept-whole p (x ∷ xs) e = go (p x) (λ h. kept-whole p xs h) (length-kept p xs) e
+  where
+    go : (b : Bool) → (length (kept p xs) ≡ length xs → kept p xs ≡ xs) → length (kept p xs) ≤ length xs
+        → length (consIf b x (kept p xs)) ≡ length (x ∷ xs) → consIf b x (kept p xs) ≡ x ∷ xs
+    go true again few e = ap (λ (r : List Bytes). x ∷ r) (again (omega arith))
+    go false again few e = absurd (omega arith)
+
+mul-suc : (n w : ℕ) → suc n * w ≡ w + n * w
+mul-suc n w = rw suc-mul (omega arith)
+
+join-pieces : (n w : ℕ) (s : Bytes) → join (pieces n w s) ≡ take (n * w) s
+unfolding join pieces
+join-pieces zero w s = let e : 0 * w ≡ 0 = omega arith in rw e
+join-pieces (suc n) w s =
+    let e : suc n * w ≡ w + n * w = mul-suc n w in
+    rw (join-pieces n w (drop w s), e, take-add w (n * w) s)
+
+pub whole-block : (p : Bytes → Bool) (n w : ℕ) (s : Bytes) → n ≡ length (kept p (pieces n w s)) → take (n * w) s ≡ join (kept p (pieces n w s))
+whole-block p n w s e = rw (kept-whole p (pieces n w s) (rw (length-pieces n w s) (sym e)), join-pieces n w s)
+
+-- ---- a run, block by block
+
+drop-take-add : (w m : ℕ) (s : Bytes) → drop w (take (w + m) s) ≡ take m (drop w s)
+drop-take-add zero m s = let e : 0 + m ≡ m = omega arith in rw e
+drop-take-add (suc w) m [] = rw (take-nil (suc w + m), take-nil m)
+drop-take-add (suc w) m (x ∷ xs) = let e : suc w + m ≡ suc (w + m) = omega arith in rw e (drop-take-add w m xs)
+
+join-append : (xs ys : List Bytes) → join (xs ++ ys) ≡ join xs ++ join ys
+unfolding join
+join-append [] ys = refl
+join-append (x ∷ xs) ys = rw (join-append xs ys, append-assoc)
+
+pieces-take : (n w : ℕ) (s : Bytes) → pieces n w (take (n * w) s) ≡ pieces n w s
+unfolding pieces
+pieces-take zero w s = refl
+pieces-take (suc n) w s =
+    let e = mul-suc n w in
+    rw (e, take-take w (w + n * w) s (omega arith), drop-take-add w (n * w) s, pieces-take n w (drop w s))
+
+pieces-split : (n m w : ℕ) (s : Bytes) → pieces (n + m) w s ≡ pieces n w s ++ pieces m w (drop (n * w) s)
+unfolding pieces
+pieces-split zero m w s = let e : 0 + m ≡ m = omega arith in let z : 0 * w ≡ 0 = omega arith in rw (e, z)
+pieces-split (suc n) m w s =
+    let e : suc n + m ≡ suc (n + m) = omega arith in
+    rw (e, mul-suc n w, pieces-split n m w (drop w s), drop-drop (n * w) w s)
+
+-- `left` records from `at` on are still to look at; the kept ones before them stand at the front of the output, and
+-- nothing else has changed there
+pub record Blocked (keep : Bytes → Bool) (f w count : ℕ) (run out₀ out : Bytes) (left at to : ℕ) (t : Tally) : Type 0 where
+  pub done : List Bytes
+  pub looked : Looked keep w count run done left at
+  pub place : to ≡ length done * w
+  pub long : length (join done) ≡ to
+  pub same : length out ≡ length out₀
+  pub is : out ≡ sets out₀ 0 (join done)
+  pub tally : t ≡ tallyOf f done
+
+module _ (keep : Bytes → Bool) (f w count : ℕ) (run out₀ : Bytes) (space : length (kept keep (pieces count w run)) * w ≤ length out₀) (few-records : count < 2 ^ 32) (wide : 20 ≤ w) where
+  pub blocks-begun : (t : Tally) → t ≡ noTally → count * w ≤ length run → Blocked keep f w count run out₀ out₀ count 0 0 t
+  unfolding join tallyOf
+  blocks-begun t e h = record { done = []; looked = begun keep w count run h; place = omega arith; long = refl; same = refl; is = refl; tally = e }
+
+  module _ (out : Bytes) (left at to : ℕ) (t : Tally) (c : Blocked keep f w count run out₀ out left at to t) (n : ℕ) (few : n ≤ left) where
+    abbrev block : Bytes
+    block = take (n * w) (drop at run)
+
+    -- the kept records of the block, and those behind it
+    abbrev pub ks : List Bytes
+    ks = kept keep (pieces n w block)
+
+    abbrev later : List Bytes
+    later = kept keep (pieces (left - n) w (drop (at + n * w) run))
+
+    split-left : n + (left - n) ≡ left
+    split-left = omega arith
+
+    products : left * w ≡ n * w + (left - n) * w
+    products = let e : (n + (left - n)) * w ≡ n * w + (left - n) * w = add-mul n (left - n) w in rw split-left at e
+
+    pub block-in : at + n * w ≤ length run
+    block-in = omega (arith, c .looked .within, products)
+
+    parts : kept keep (pieces left w (drop at run)) ≡ ks ++ later
+    parts =
+        let e : pieces (n + (left - n)) w (drop at run) ≡ pieces n w (drop at run) ++ pieces (left - n) w (drop (n * w) (drop at run)) = pieces-split n (left - n) w (drop at run) in
+        let g : pieces left w (drop at run) ≡ pieces n w (drop at run) ++ pieces (left - n) w (drop (at + n * w) run) = rw (split-left, drop-drop (n * w) at run) at e in
+        rw (g, kept-append, pieces-take n w (drop at run))
+
+    whole : c .done ++ (ks ++ later) ≡ kept keep (pieces count w run)
+    whole = rw parts at (c .looked .all)
+
+    wholes : length (c .done) + (length ks + length later) ≡ length (kept keep (pieces count w run))
+    wholes = rw (← whole, length-append, length-append)
+
+    pub block-few : length (c .done) + length ks ≤ count
+    block-few = omega (arith, wholes, length-kept keep (pieces count w run), length-pieces count w run)
+
+    -- there is room for the kept records of the block
+    pub block-room : to + length ks * w ≤ length out₀
+    block-room =
+        let k = length (c .done) in
+        let e : (k + (length ks + length later)) * w ≡ k * w + (length ks + length later) * w = add-mul k (length ks + length later) w in
+        let g : (length ks + length later) * w ≡ length ks * w + length later * w = add-mul (length ks) (length later) w in
+        omega (arith, c .place, e, g, rw (← wholes) at space)
+
+    widths : All (λ p. length p ≡ w) ks
+    widths =
+        let held : length block ≡ n * w = length-take-le (n * w) (drop at run) (simp length-drop (omega (arith, block-in))) in
+        All-kept (λ p. length p ≡ w) keep (pieces n w block) (pieces-width n w block (rw held (omega arith)))
+
+    long-block : length (join ks) ≡ length ks * w
+    long-block = length-join-pieces w ks widths
+
+    module _ (out′ : Bytes) (g : out′ ≡ sets out to (join ks)) where
+      same-room : length out′ ≡ length out₀
+      same-room = rw (g, length-sets) (c .same)
+
+      -- the records of the block as they stand
+      stands : pieces (length ks) w (drop to out′) ≡ ks
+      stands =
+          let enough : to + length (join ks) ≤ length out = omega (arith, block-room, long-block, c .same) in
+          let head : length (take to out) ≡ to = length-take-le to out (omega arith) in
+          let placed : out′ ≡ take to out ++ (join ks ++ drop (to + length (join ks)) out) = g ∙ sets-eq (join ks) out to enough ∙ append-assoc (take to out) (join ks) (drop (to + length (join ks)) out) in
+          rw (placed, drop-at (take to out) (join ks ++ drop (to + length (join ks)) out) to head)
+          (pieces-back w ks (drop (to + length (join ks)) out) widths)
+
+      -- and the points that are tallied are these
+      tallied-are : pointsOf (length ks) w (drop to out′) ≡ ks
+      tallied-are =
+          points-held (length ks) w (drop to out′)
+          record { long = wide; few = omega (arith, block-few); within = simp length-drop (omega (arith, block-room, same-room)) }
+          ∙ stands
+
+      pub blocks-next : (t′ : Tally) → t′ ≡ tallyMore f t (pointsOf (length ks) w (drop to out′))
+          → Blocked keep f w count run out₀ out′ (left - n) (at + n * w) (to + length ks * w) t′
+      blocks-next t′ e =
+          let zeroth : 0 + to ≡ to = omega arith in
+          record {
+            done = c .done ++ ks;
+            looked = record { within = omega (arith, c .looked .within, products); all = rw append-assoc whole };
+            place = rw (length-append, add-mul, c .place);
+            long = rw (join-append, length-append, long-block, c .long);
+            same = same-room;
+            is = rw (join-append, sets-append, c .long, ← c .is, zeroth) g;
+            tally = e ∙ rw (tallied-are, c .tally) (more-of f (c .done) ks (omega (arith, block-few)));
+          }
+
+  pub blocks-done : (out : Bytes) (left at to : ℕ) (t : Tally) → left ≤ 0 → Blocked keep f w count run out₀ out left at to t
+      → (t ≡ tallyOf f (kept keep (pieces count w run))) × (out ≡ sets out₀ 0 (join (kept keep (pieces count w run))))
+  blocks-done out zero at to t h c = rw (← done-all keep w count run (c .done) at (c .looked)) (c .tally, c .is)
+  blocks-done out (suc left) at to t h c = absurd (omega arith)
