@@ -11,7 +11,7 @@ use lib.Seq.{sets, sets-eq, length-sets, length-take-le, getD-drop, take-at, dro
 use Rattle.fields.specs.Lists.{All, total}
 use Rattle.fields.specs.Bytes.{Bytes, AllBytes, zeros, join, pieces}
 use Rattle.fields.specs.declared.Verdict.the-variants.{Passes}
-use Rattle.fields.proofs.ByteLaws.{pieces-bytes, pieces-back, length-join-pieces}
+use Rattle.fields.proofs.ByteLaws.{pieces-bytes, length-join-pieces}
 use Rattle.fields.proofs.ListLaws.{kept-same}
 use Rattle.points.proofs.formats.FormatLaws.{shared-first}
 use Rattle.scaling.specs.Scaling.{scalingIn, scalingOf}

@@ -14,7 +14,7 @@ use Rattle.points.proofs.FieldLaws.{flag-le}
 use Rattle.points.proofs.raw.RunLaws.{both}
 use Rattle.tally.specs.declared.Bins.{Bins}
 use Rattle.tally.specs.declared.Tally.{Tally}
-use Rattle.tally.specs.Bins.{oneIn, binsWith, BinsUpTo, binsFit, inFour}
+use Rattle.tally.specs.Bins.{oneIn, binsWith, BinsUpTo, binsFit}
 use Rattle.tally.specs.Tally.{noTally, tallyWith, tallied, tallyOf, tallyMore, countsFit, CountsUpTo}
 
 bins-with : (b one : Bins) (n m : ℕ) → BinsUpTo b n → BinsUpTo one 1 → n + 1 ≤ m → BinsUpTo (binsWith b one) m

@@ -3,7 +3,7 @@
 use mathlib.Core.Path.{_≡_, sym, ap, _∙_}
 use Prim.Native.Nat.{ℕ, _+_, _≤_}
 use native.Mathlib.Omega.{arith}
-use mathlib.Core.List.{[], _++_, append-nil}
+use mathlib.Core.List.{_++_, append-nil}
 use lib.ListN.{length, take, length-append, length-replicate, drop-of-length-le}
 use lib.Seq.{sets, sets-eq, length-take-le}
 use Rattle.fields.specs.Bytes.{Bytes, zeros}

@@ -12,7 +12,6 @@ use Rattle.lasfile.specs.FileChecks.{fileVerdict}
 use Rattle.sheet.specs.Sheet.{sheetVerdict}
 use Rattle.publicpart.specs.Public.{publicOf}
 use Rattle.publicpart.specs.Render.{render}
-use Rattle.publicpart.specs.Release.{Outcome}
 use Rattle.publicpart.specs.declared.Answer.the-variants.{Released, Short}
 use Rattle.publicpart.proofs.AnswerLaws.{refused-by-file, refused-by-sheet, release-short, release-long}
 use Rattle.release.specs.Assembly.{endOfPoints}

@@ -1,7 +1,7 @@
 -- `copying::copy_whole` meets its contract. Assumes nothing.
 use mathlib.Core.Path.{_≡_, sym, _∙_}
-use Prim.Native.Nat.{_+_, _≤_}
-use mathlib.Core.Bool.{true, false}
+use Prim.Native.Nat.{_+_}
+use mathlib.Core.Bool.{true}
 use denote.Ref.{now}
 use lib.ListN.{length}
 use lib.Dec.{leb}

@@ -1,7 +1,7 @@
 -- `copier::copy_points` meets its contract. Assumes nothing.
 use Rattle.tally.specs.declared.Tally.{Tally}
 use mathlib.Core.Path.{_≡_, sym, ap, _∙_}
-use Prim.Native.Nat.{_*_, _≤_}
+use Prim.Native.Nat.{_*_}
 use native.Mathlib.Omega.{arith}
 use denote.Ref.{now}
 use lib.ListN.{length}

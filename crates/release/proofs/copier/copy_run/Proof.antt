@@ -13,7 +13,7 @@ use Rattle.sheet.specs.Keeping.{inTable}
 use Rattle.points.specs.Raw.{pointsOf}
 use Rattle.tally.specs.Tally.{tallyMore}
 use Rattle.release.specs.KeptPoints.{keptOf}
-use Rattle.release.proofs.copier.BlockLaws.{Blocked, blocks-begun, block-in, block-room, block-few, blocks-next, blocks-done}
+use Rattle.release.proofs.copier.BlockLaws.{Blocked, blocks-begun, block-in, block-room, blocks-next, blocks-done}
 use Rattle.release.proofs.copier.copy_run.Statement.{statement}
 use Rattle.release.proofs.copier.copy_run.Tie as tie
 
