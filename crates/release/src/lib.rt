@@ -56,9 +56,6 @@ pub fn release(file: &[u8], sheet: &[u8], out: &mut [u8]) -> Answer
         return Answer::Short(needed);
     }
     let points = assembly::write(file, sheet, &table, records, start, out);
-    Answer::Released(
-        start + points * header::record_length(file),
-        points,
-        records,
-    )
+    let length = start + points * header::record_length(file);
+    Answer::Released(length, points, records)
 }

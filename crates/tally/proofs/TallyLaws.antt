@@ -21,7 +21,7 @@ use Rattle.tally.specs.Tally.{noTally, tallyWith, tallied, tallyOf}
 
 -- ---- one point
 
--- what a tally becomes by what a return number n adds and by coordinates q is what it becomes by a point that they are of
+-- what a tally becomes by what a return number n adds and by coordinates q is what it becomes by a point that has them
 pub tallied-by : (f : ℕ) (t t′ : Tally) (n : ℕ) (one : Bins) (q : Stored) (p : Bytes) → t′ ≡ tallyWith t one q → one ≡ oneIn n → n ≡ returnOf f p → q ≡ storedOf p
     → t′ ≡ tallied f t p
 unfolding tallied

@@ -1,5 +1,5 @@
--- A block of records of which the kept ones are copied, and the loop over the blocks of a run, apart from any code: what
--- holds at the start, after a turn, and at the end.
+-- A block of records of which the kept ones are copied, and the loop over the blocks of a run, apart from any code:
+-- what holds at the start, after a turn, and at the end.
 -- Assumes nothing.
 use mathlib.Core.Path.{_≡_, refl, sym, ap, _∙_}
 use Prim.Native.Nat.{ℕ, zero, suc, _+_, _-_, _*_, _^_, _≤_, _<_}
@@ -170,18 +170,19 @@ module _ (keep : Bytes → Bool) (f w count : ℕ) (run out₀ : Bytes) (space :
           record { long = wide; few = omega (arith, block-few); within = simp length-drop (omega (arith, block-room, same-room)) }
           ∙ stands
 
-      pub blocks-next : (t′ : Tally) → t′ ≡ tallyMore f t (pointsOf (length ks) w (drop to out′))
-          → Blocked keep f w count run out₀ out′ (left - n) (at + n * w) (to + length ks * w) t′
-      blocks-next t′ e =
+      -- the block is done: k records more stand in the output, and are tallied
+      pub blocks-next : (k : ℕ) → k ≡ length ks → (t′ : Tally) → t′ ≡ tallyMore f t (pointsOf k w (drop to out′))
+          → Blocked keep f w count run out₀ out′ (left - n) (at + n * w) (to + k * w) t′
+      blocks-next k number t′ e =
           let zeroth : 0 + to ≡ to = omega arith in
           record {
             done = c .done ++ ks;
             looked = record { within = omega (arith, c .looked .within, products); all = rw append-assoc whole };
-            place = rw (length-append, add-mul, c .place);
-            long = rw (join-append, length-append, long-block, c .long);
+            place = rw (length-append, add-mul, c .place, number);
+            long = rw (join-append, length-append, long-block, c .long, number);
             same = same-room;
             is = rw (join-append, sets-append, c .long, ← c .is, zeroth) g;
-            tally = e ∙ rw (tallied-are, c .tally) (more-of f (c .done) ks (omega (arith, block-few)));
+            tally = e ∙ rw (number, tallied-are, c .tally) (more-of f (c .done) ks (omega (arith, block-few)));
           }
 
   pub blocks-done : (out : Bytes) (left at to : ℕ) (t : Tally) → left ≤ 0 → Blocked keep f w count run out₀ out left at to t

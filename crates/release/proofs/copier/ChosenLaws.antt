@@ -1,5 +1,5 @@
--- The loop that copies the chosen records of a block, apart from any code: what holds at the start, after a turn, and at
--- the end.
+-- The loop that copies the chosen records of a block, apart from any code: what holds at the start, after a turn, and
+-- at the end.
 -- Assumes nothing.
 use mathlib.Core.Path.{_≡_, refl, ap}
 use Prim.Native.Nat.{ℕ, zero, suc, _+_, _-_, _*_, _≤_, _<_}

@@ -1,5 +1,5 @@
--- The loop that chooses the kept records of a block by their places, apart from any code: what holds at the start, after
--- a turn, and at the end.
+-- The loop that chooses the kept records of a block by their places, apart from any code: what holds at the start,
+-- after a turn, and at the end.
 -- Assumes nothing.
 use mathlib.Core.Path.{_≡_, refl, ap, _∙_}
 use Prim.Native.Nat.{ℕ, zero, suc, _+_, _-_, _*_, _≤_, _<_}

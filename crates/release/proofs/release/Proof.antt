@@ -105,11 +105,11 @@ small c =
     let s = c .before .before .before .before .before .before .before .before .before .before .before .before .before .before .before .before .before .before .before .before .before in
     omega (arith, end-most (c .before .before .before .before .before .before .before .before .before .before .before .class-table .result) (now (s .args .file)) (headerBlock + c .before .before .before .before .before .before .before .before .before .before .measure .result .length), sizes (c .before .before .before .before .before .before .before .before .before .before) .most, s .good)
 
-mul-t21 : tie.Need-mul-t21
-mul-t21 c = omega (arith, length-is c, small c)
+mul-length : tie.Need-mul-length
+mul-length c = omega (arith, length-is c, small c)
 
-add-t22 : tie.Need-add-t22
-add-t22 c = omega (arith, length-is c, small c)
+add-length : tie.Need-add-length
+add-length c = omega (arith, length-is c, small c)
 
 same-length : tie.Need-same-length
 same-length c = search needs
@@ -162,7 +162,7 @@ release-spec =
     returns-3
     write-requires
     record-length-requires
-    mul-t21
-    add-t22
+    mul-length
+    add-length
     same-length
     returns-4)

@@ -1,9 +1,10 @@
 -- `assembly::put_points` meets its contract. Assumes nothing.
 use mathlib.Core.Path.{_≡_, _∙_}
-use Prim.Native.Nat.{_+_, _*_, _≤_}
+use Prim.Native.Nat.{ℕ, _+_, _-_, _*_, _≤_}
 use native.Mathlib.Omega.{arith}
 use denote.Ref.{now}
-use lib.ListN.{length, drop, length-drop}
+use lib.ListN.{length, take, drop, length-drop}
+use Rattle.fields.specs.Bytes.{Bytes}
 use Rattle.fields.proofs.StoreLaws.{tail-part}
 use Rattle.lasfile.specs.HeaderFields.{recordLength}
 use Rattle.release.proofs.vlrs.KeptLaws.{from-place}
@@ -42,6 +43,10 @@ points-are c =
 reached : (c : tie.After-part-at) → let a = c .before .before .before .before .before .before .before .args in a .start + length (keptIn (now (a .table)) (now (a .file))) * recordLength (now (a .file)) ≤ length (now (a .out))
 reached c = let s = c .before .before .before .before .before .before .before in let a = s .args in omega (arith, points-end (now (a .table)) (now (a .file)) (a .start), s .pre)
 
+-- the part of an output from a place on has the room behind that place
+lent-room : (l : Bytes) (a n : ℕ) → a + n ≤ length l → n ≤ length (take (length l - a) (drop a l))
+lent-room l a n h = rw (tail-part l a, length-drop) (omega arith)
+
 sub-copy-points : tie.Need-sub-copy-points
 sub-copy-points c = omega (arith, reached c)
 
@@ -55,7 +60,7 @@ copy-points-requires : tie.Need-copy-points-requires
 copy-points-requires c κs =
     let p = c .before in
     let a = p .before .before .before .before .before .before .before .args in
-    rw (points-are p, p .before .before .record-length .ensures .0, tail-part (now (a .out)) (a .start), length-drop) (omega (arith, reached p))
+    rw (points-are p, p .before .before .record-length .ensures .0) (lent-room (now (a .out)) (a .start) _ (reached p))
 
 same-length : tie.Need-same-length
 same-length c = search needs

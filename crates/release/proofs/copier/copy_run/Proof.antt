@@ -154,10 +154,10 @@ loop-again c =
     let s = turn .before .before .before .before .before .before in
     let a = s .args in
     let l = turn .before .before .loop in
-    let more : c .tally-more .result ≡ tallyMore (a .format) (l .t) (pointsOf (length (block-kept turn)) (a .record-length) (drop (l .to) (after d))) =
-    rw (copied d, tail-part (after d) (l .to)) at (c .tally-more .ensures) in
-    rw (copied d) (
-      blocks-next _ _ _ _ _ _ (s .pre .3) (s .pre .1) (s .pre .0) (l .out) (l .left) (l .at) (l .to) (l .t) (l .inv .0) (turn .in-block .result) (some turn .1) (after d) (stands d) _ more,
+    let k = d .before .before .before .copy-block .result in
+    let more : c .tally-more .result ≡ tallyMore (a .format) (l .t) (pointsOf k (a .record-length) (drop (l .to) (after d))) =
+    c .tally-more .ensures ∙ ap (λ (x : Bytes). tallyMore (a .format) (l .t) (pointsOf k (a .record-length) x)) (tail-part (after d) (l .to)) in (
+      blocks-next _ _ _ _ _ _ (s .pre .3) (s .pre .1) (s .pre .0) (l .out) (l .left) (l .at) (l .to) (l .t) (l .inv .0) (turn .in-block .result) (some turn .1) (after d) (stands d) k (copied d) _ more,
       d .before .before .before .copy-block .kept .1 .1 .1 .1 .1 .0 ∙ l .inv .1,
     )
 
