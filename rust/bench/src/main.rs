@@ -1,18 +1,50 @@
-//! Times the proved library and `las_plain` on one file, sheet and output.
+//! Times the proved library and `las_plain` on the same files, sheet and output, and an earlier build of the library
+//! where one is given.
 //!
-//! Run it with `cargo run --release -p bench`. Each figure is a median; the
-//! sides take turns, and the output is cleared before each run.
+//! Run it with `cargo run --release -p bench`, or with `-- --before SHARED_OBJECT`. Each figure is a median; the sides
+//! take turns, and the output is cleared before each turn.
 
-mod ours;
-mod points;
+mod builds;
+mod calls;
+mod cases;
+mod growth;
+mod library;
 mod releases;
+mod report;
 mod sample;
+mod table;
 mod timing;
 
-fn main() {
-    let million = releases::compare(1_000_000);
+use std::ffi::OsString;
+use std::process::ExitCode;
+
+use builds::Builds;
+
+fn main() -> ExitCode {
+    let arguments: Vec<OsString> = std::env::args_os().skip(1).collect();
+    match Builds::asked_for(&arguments) {
+        Ok(builds) => {
+            compare(&builds);
+            ExitCode::SUCCESS
+        }
+        Err(why) => {
+            eprintln!("{why}");
+            ExitCode::from(2)
+        }
+    }
+}
+
+fn compare(builds: &Builds) {
+    let before = builds.before.is_some();
+    let table = report::start(before);
+    let mut rows = Vec::new();
+    for sample in cases::samples() {
+        let timed = releases::rows(builds, sample);
+        timed.iter().for_each(|row| table.row(&report::cells(row)));
+        rows.extend(timed);
+    }
     println!();
-    releases::print_growth(&[10_000, 100_000, 1_000_000], &million);
+    growth::print(&rows, before);
     println!();
-    points::compare(1_000_000);
+    calls::compare(builds);
 }

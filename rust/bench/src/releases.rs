@@ -1,127 +1,112 @@
-//! Releases of whole files.
+//! Releases of whole files: each side's median, and that all sides release the same.
 
 use std::hint::black_box;
 use std::time::Duration;
 
-use crate::ours;
-use crate::sample::{SHEET, file};
-use crate::timing::{median, milliseconds, per_item, ratio, time};
+use korbishaf::sys::las_released;
 
-/// Runs of each side at one million points; smaller files get more.
-const RUNS: usize = 15;
+use crate::builds::Builds;
+use crate::cases::{Output, rounds};
+use crate::library::Library;
+use crate::sample::{SHEET, Sample};
+use crate::timing::{Side, medians, time};
 
-/// The medians of one file.
+/// One case with its medians.
+pub struct Row {
+    pub sample: Sample,
+    pub output: Output,
+    pub medians: Medians,
+}
+
+/// The median of each side.
 pub struct Medians {
-    points: usize,
-    ours: Duration,
-    plain: Duration,
+    /// Of a copy of the file's bytes.
+    pub copy: Duration,
+    pub plain: Duration,
+    pub ours: Duration,
+    pub before: Option<Duration>,
 }
 
-/// Times both sides and plain copies, and prints the figures.
-pub fn compare(points: usize) -> Medians {
-    let file = file(points);
-    let mut out = vec![0; file.len()];
-    let length = assert_same(&file, &mut out);
-    let medians = medians(&file, points, &mut out);
-    let copy_file = copy_median(&file, &mut out);
-    let copy_released = copy_median(&file[..length], &mut out);
-    println!("release of {points} format 1 points, half kept at random, medians of {RUNS} runs");
-    println!(
-        "  ours                       {:9.3} ms",
-        milliseconds(medians.ours)
-    );
-    println!(
-        "  las_plain                  {:9.3} ms",
-        milliseconds(medians.plain)
-    );
-    println!(
-        "  copy of the file's bytes   {:9.3} ms",
-        milliseconds(copy_file)
-    );
-    println!(
-        "  copy of the released bytes {:9.3} ms",
-        milliseconds(copy_released)
-    );
-    println!(
-        "  ours / las_plain           {:9.3}",
-        ratio(medians.ours, medians.plain)
-    );
-    println!(
-        "  ours / copy of the file    {:9.3}",
-        ratio(medians.ours, copy_file)
-    );
-    println!(
-        "  ours / copy of the release {:9.3}",
-        ratio(medians.ours, copy_released)
-    );
-    medians
+/// Times the releases of one file: into an output of its length, and into one of the released length unless that is the
+/// same.
+pub fn rows(builds: &Builds, sample: Sample) -> Vec<Row> {
+    let file = sample.file();
+    let mut room = vec![0; file.len()];
+    let exact = assert_same(builds, &file, &mut room);
+    let mut outputs = vec![(Output::File, file.len())];
+    if exact < file.len() {
+        assert_same(builds, &file, &mut room[..exact]);
+        outputs.push((Output::Exact, exact));
+    }
+    let rounds = rounds(sample.points);
+    let row = |(output, length)| Row {
+        sample,
+        output,
+        medians: compare(builds, &file, length, rounds, &mut room),
+    };
+    outputs.into_iter().map(row).collect()
 }
 
-/// Prints the time of each point for files of these sizes.
-pub fn print_growth(sizes: &[usize], million: &Medians) {
-    println!("growth: ns for each point of the file");
-    println!("  {:>9} {:>10} {:>10}", "points", "ours", "las_plain");
-    let mut rows = Vec::new();
-    for &points in sizes {
-        let row = if points == million.points {
-            [million.ours, million.plain]
-        } else {
-            let file = file(points);
-            let mut out = vec![0; file.len()];
-            let medians = medians(&file, points, &mut out);
-            [medians.ours, medians.plain]
-        };
-        let [ours, plain] = row.map(|time| per_item(time, points));
-        println!("  {points:>9} {ours:>10.2} {plain:>10.2}");
-        rows.push((ours, plain));
-    }
-    if let [first, .., last] = rows.as_slice() {
-        println!(
-            "  last/first {:>9.2} {:>10.2}",
-            last.0 / first.0,
-            last.1 / first.1
-        );
-    }
-}
-
-/// Both sides in turn, the output cleared before each run.
-fn medians(file: &[u8], points: usize, out: &mut [u8]) -> Medians {
-    let runs = RUNS * (1_000_000 / points).clamp(1, 19);
-    let (mut ours_times, mut plain_times) = (Vec::new(), Vec::new());
-    for _ in 0..runs {
-        out.fill(0);
-        ours_times.push(time(|| {
-            black_box(ours::release(black_box(file), &SHEET, out));
-        }));
-        out.fill(0);
-        plain_times.push(time(|| {
-            black_box(las_plain::release(black_box(file), &SHEET, out)).ok();
-        }));
-    }
+/// Times all sides with an output of this length, the front of the room.
+fn compare(builds: &Builds, file: &[u8], length: usize, rounds: usize, room: &mut [u8]) -> Medians {
+    let mut sides = vec![copy(file), plain(file, length)];
+    sides.extend(builds.all().map(|build| library(build, file, length)));
+    let found = medians(rounds, &sides, room);
     Medians {
-        points,
-        ours: median(&mut ours_times),
-        plain: median(&mut plain_times),
+        copy: found[0],
+        plain: found[1],
+        ours: found[2],
+        before: found.get(3).copied(),
     }
 }
 
-fn copy_median(from: &[u8], out: &mut [u8]) -> Duration {
-    let mut times: Vec<Duration> = (0..RUNS)
-        .map(|_| {
-            out.fill(0);
-            let to = &mut out[..from.len()];
-            time(|| black_box(to).copy_from_slice(black_box(from)))
-        })
-        .collect();
-    median(&mut times)
+/// A copy takes the whole room, however long the output is.
+fn copy(file: &[u8]) -> Side<'_> {
+    Box::new(move |room| {
+        room.fill(0);
+        time(|| black_box(room).copy_from_slice(black_box(file)))
+    })
 }
 
-/// Both sides give the same output and numbers; the released length.
-fn assert_same(file: &[u8], out: &mut [u8]) -> usize {
-    let answer = ours::release(file, &SHEET, out);
-    let mut plain_out = vec![0xEE; out.len()];
-    let plain = las_plain::release(file, &SHEET, &mut plain_out).expect("the file is released");
-    assert_eq!(answer, (0, plain.length, plain.points, plain.records));
-    assert!(*out == *plain_out, "the outputs differ");
+fn plain(file: &[u8], length: usize) -> Side<'_> {
+    Box::new(move |room| {
+        let out = cleared(room, length);
+        time(|| {
+            black_box(las_plain::release(black_box(file), &SHEET, out)).ok();
+        })
+    })
+}
+
+fn library<'a>(build: &'a Library, file: &'a [u8], length: usize) -> Side<'a> {
+    Box::new(move |room| {
+        let out = cleared(room, length);
+        time(|| {
+            black_box(build.release(black_box(file), &SHEET, out));
+        })
+    })
+}
+
+/// The output, with nothing left in it of the run before.
+fn cleared(room: &mut [u8], length: usize) -> &mut [u8] {
+    let out = &mut room[..length];
+    out.fill(0);
+    out
+}
+
+/// Asserts that all sides give the same numbers and the same output, whatever was in it; gives the released length.
+fn assert_same(builds: &Builds, file: &[u8], out: &mut [u8]) -> usize {
+    let mut expected = vec![0x77; out.len()];
+    let plain = las_plain::release(file, &SHEET, &mut expected).expect("the file is released");
+    let numbers = las_released {
+        number: 0,
+        length: plain.length,
+        points: plain.points,
+        records: plain.records,
+    };
+    for build in builds.all() {
+        out.fill(0xEE);
+        assert_eq!(build.release(file, &SHEET, out), numbers);
+        assert!(*out == *expected, "the outputs differ");
+    }
     plain.length as usize
 }

@@ -1,0 +1,41 @@
+//! The time for each point as files grow, read off the rows of the releases.
+
+use crate::cases::{MILLION, Output, SIZES};
+use crate::releases::Row;
+use crate::report::{sides, times};
+use crate::sample::Sample;
+use crate::table::Table;
+use crate::timing::per_item;
+
+/// Prints the time for each point of files of all sizes, and by how much it grows.
+pub fn print(rows: &[Row], before: bool) {
+    println!("growth: ns for each point, half kept at random, output as long as the file");
+    let mut heads = vec!["        points"];
+    heads.extend(sides(before));
+    let table = Table::start(&heads);
+    let sizes = SIZES.map(|points| per_point(rows, points));
+    for (points, each) in SIZES.iter().zip(&sizes) {
+        table.row(&cells(&points.to_string(), each));
+    }
+    let [_, small, _, large] = &sizes;
+    table.row(&cells("10^7 / 10^5", &ratios(large, small)));
+}
+
+/// Nanoseconds for each point, side by side, of the common case at this size.
+fn per_point(rows: &[Row], points: usize) -> Vec<f64> {
+    let sample = Sample { points, ..MILLION };
+    let is_it = |row: &&Row| row.sample == sample && row.output == Output::File;
+    let row = rows.iter().find(is_it).expect("every size has a row");
+    let each = |time| per_item(time, points);
+    times(&row.medians).map(each).collect()
+}
+
+fn ratios(large: &[f64], small: &[f64]) -> Vec<f64> {
+    let sides = large.iter().zip(small);
+    sides.map(|(large, small)| large / small).collect()
+}
+
+fn cells(name: &str, figures: &[f64]) -> Vec<String> {
+    let figures = figures.iter().map(|figure| format!("{figure:.2}"));
+    [name.to_string()].into_iter().chain(figures).collect()
+}

@@ -1,0 +1,63 @@
+//! Builds of the proved library, called on slices. All of the program's unsafe code is here and in [`loading`].
+
+mod loading;
+
+use korbishaf::sys::{self, las_point, las_released};
+
+type Release = unsafe extern "C" fn(*const u8, u64, *const u8, u64, *mut u8, u64) -> las_released;
+type CheckFile = unsafe extern "C" fn(*const u8, u64) -> u64;
+type Decode = unsafe extern "C" fn(u8, u16, *const u8, u64) -> las_point;
+type Encode = unsafe extern "C" fn(u8, u16, las_point, *mut u8, u64) -> u64;
+
+/// One build, by those of its functions that are timed. Every build is called through pointers, so that none is called
+/// in a faster way.
+pub struct Library {
+    release: Release,
+    check_file: CheckFile,
+    decode: Decode,
+    encode: Encode,
+}
+
+impl Library {
+    /// The build that is linked into the program.
+    pub fn linked() -> Self {
+        Self {
+            release: sys::las_release,
+            check_file: sys::las_check_file,
+            decode: sys::las_decode,
+            encode: sys::las_encode,
+        }
+    }
+
+    pub fn release(&self, file: &[u8], sheet: &[u8], out: &mut [u8]) -> las_released {
+        // SAFETY: each pointer comes with its slice's length, and the borrows keep the output apart from the rest.
+        unsafe {
+            (self.release)(
+                file.as_ptr(),
+                file.len() as u64,
+                sheet.as_ptr(),
+                sheet.len() as u64,
+                out.as_mut_ptr(),
+                out.len() as u64,
+            )
+        }
+    }
+
+    pub fn check_file(&self, file: &[u8]) -> u64 {
+        // SAFETY: as above.
+        unsafe { (self.check_file)(file.as_ptr(), file.len() as u64) }
+    }
+
+    pub fn decode(&self, format: u8, bytes: &[u8]) -> las_point {
+        let length = bytes.len();
+        // SAFETY: as above.
+        unsafe { (self.decode)(format, length as u16, bytes.as_ptr(), length as u64) }
+    }
+
+    pub fn encode(&self, format: u8, point: las_point, room: &mut [u8]) -> u64 {
+        let length = room.len();
+        let to = room.as_mut_ptr();
+        // SAFETY: as above.
+        unsafe { (self.encode)(format, length as u16, point, to, length as u64) }
+    }
+}
