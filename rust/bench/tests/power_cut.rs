@@ -1,0 +1,93 @@
+//! A release that is cut short at any moment, as by a power cut, has written nothing that is not released.
+//!
+//! Each trial kills a process that releases into a mapped file, and looks there for a byte that stands in nothing that
+//! is released.
+
+mod power_cut {
+    pub mod desk;
+    pub mod scan;
+}
+
+use std::fmt;
+use std::io::Write;
+use std::time::Duration;
+
+use compare::rng::{FIXED_SEED, Rng};
+use power_cut::desk::Desk;
+use power_cut::scan::{self, DROPPED, MARKER};
+
+/// For each length of the output.
+const TRIALS: usize = 300;
+
+#[test]
+fn a_release_that_is_killed_leaves_no_byte_that_is_not_released() {
+    let (file, sheet) = (scan::file(), scan::sheet());
+    let mut room = vec![MARKER; file.len()];
+    let answer = las_plain::release(&file, &sheet, &mut room).expect("the file is released");
+    assert!((90_000..110_000).contains(&answer.points));
+    assert_eq!(answer.records, 1);
+    let lengths = [file.len(), answer.length as usize];
+    let outcomes = lengths.map(|length| cut_releases(&file, &sheet, &room[..length]));
+    for outcome in outcomes {
+        assert!(outcome.leaks.is_empty(), "{outcome}");
+        assert!(outcome.cut >= TRIALS / 5, "too few: {outcome}");
+    }
+}
+
+/// What came of the trials with one length of the output.
+struct Outcome {
+    length: usize,
+    /// How many had begun to write and not ended.
+    cut: usize,
+    /// The first place of a byte that is not released, for each trial that left one.
+    leaks: Vec<usize>,
+}
+
+impl fmt::Display for Outcome {
+    fn fmt(&self, f: &mut fmt::Formatter) -> fmt::Result {
+        let (length, cut, leaks) = (self.length, self.cut, self.leaks.len());
+        write!(
+            f,
+            "output of {length} bytes: {TRIALS} releases killed, {cut} of them while writing, "
+        )?;
+        write!(f, "{leaks} left bytes that are not released")?;
+        if let Some(place) = self.leaks.iter().min() {
+            write!(f, " (from place {place} on)")?;
+        }
+        Ok(())
+    }
+}
+
+/// Kills releases into an output of the length of `released`, which is what they write where they are let be.
+fn cut_releases(file: &[u8], sheet: &[u8], released: &[u8]) -> Outcome {
+    assert!(!released.contains(&DROPPED));
+    let desk = Desk::new(file, sheet, vec![MARKER; released.len()]);
+    let whole = whole_release(&desk, released);
+    let mut rng = Rng::new(FIXED_SEED);
+    let (mut cut, mut leaks) = (0, Vec::new());
+    for _ in 0..TRIALS {
+        desk.cut_release(whole.mul_f64(rng.below(1_200) as f64 / 1_000.0));
+        let output = desk.output();
+        let begun = output.iter().any(|&byte| byte != MARKER);
+        cut += usize::from(begun && output != released);
+        leaks.extend(output.iter().position(|&byte| byte == DROPPED));
+    }
+    let length = released.len();
+    let outcome = Outcome { length, cut, leaks };
+    // Written past the test harness, which keeps what a passing test prints.
+    std::io::stderr()
+        .write_all(format!("{outcome}\n").as_bytes())
+        .ok();
+    outcome
+}
+
+/// The median time of releases that nothing disturbs. Each has to write what las_plain does.
+fn whole_release(desk: &Desk, released: &[u8]) -> Duration {
+    let mut times = [(); 15].map(|()| {
+        let time = desk.release();
+        assert!(desk.output() == released, "the outputs differ");
+        time
+    });
+    times.sort();
+    times[times.len() / 2]
+}
