@@ -17,7 +17,10 @@ use power_cut::desk::Desk;
 use power_cut::scan::{self, DROPPED, MARKER};
 
 /// For each length of the output.
-const TRIALS: usize = 300;
+const TRIALS: usize = ROUNDS * TRIALS_OF_ROUND;
+/// In each round whole releases are timed anew, since other work on the machine comes and goes.
+const ROUNDS: usize = 15;
+const TRIALS_OF_ROUND: usize = 20;
 
 #[test]
 fn a_release_that_is_killed_leaves_no_byte_that_is_not_released() {
@@ -62,32 +65,33 @@ impl fmt::Display for Outcome {
 fn cut_releases(file: &[u8], sheet: &[u8], released: &[u8]) -> Outcome {
     assert!(!released.contains(&DROPPED));
     let desk = Desk::new(file, sheet, vec![MARKER; released.len()]);
-    let whole = whole_release(&desk, released);
     let mut rng = Rng::new(FIXED_SEED);
     let (mut cut, mut leaks) = (0, Vec::new());
-    for _ in 0..TRIALS {
-        desk.cut_release(whole.mul_f64(rng.below(1_200) as f64 / 1_000.0));
-        let output = desk.output();
-        let begun = output.iter().any(|&byte| byte != MARKER);
-        cut += usize::from(begun && output != released);
-        leaks.extend(output.iter().position(|&byte| byte == DROPPED));
+    for _ in 0..ROUNDS {
+        let whole = whole_release(&desk, released);
+        for _ in 0..TRIALS_OF_ROUND {
+            desk.cut_release(whole.mul_f64(rng.below(1_200) as f64 / 1_000.0));
+            let output = desk.output();
+            let begun = output.iter().any(|&byte| byte != MARKER);
+            cut += usize::from(begun && output != released);
+            leaks.extend(output.iter().position(|&byte| byte == DROPPED));
+        }
     }
     let length = released.len();
     let outcome = Outcome { length, cut, leaks };
     // Written past the test harness, which keeps what a passing test prints.
-    std::io::stderr()
-        .write_all(format!("{outcome}\n").as_bytes())
-        .ok();
+    let line = format!("{outcome}\n");
+    std::io::stderr().write_all(line.as_bytes()).ok();
     outcome
 }
 
-/// The median time of releases that nothing disturbs. Each has to write what las_plain does.
+/// The median time of three releases that nothing disturbs. Each has to write what las_plain does.
 fn whole_release(desk: &Desk, released: &[u8]) -> Duration {
-    let mut times = [(); 15].map(|()| {
+    let mut times = [(); 3].map(|()| {
         let time = desk.release();
         assert!(desk.output() == released, "the outputs differ");
         time
     });
     times.sort();
-    times[times.len() / 2]
+    times[1]
 }
