@@ -2,12 +2,12 @@
 -- Assumes nothing.
 use mathlib.Core.Path.{_≡_, refl, sym, ap, ap₂, _∙_, subst}
 use Prim.Native.Nat.{ℕ, zero, suc, _+_, _-_, _*_, _/_, _%_, _^_, _≤_, _<_}
-use native.Mathlib.Nat.{not-suc-le-zero, mul-assoc, pow-succ'}
+use native.Mathlib.Nat.{suc-mul, not-suc-le-zero, mul-assoc, pow-succ'}
 use native.Mathlib.Omega.{arith}
 use mathlib.Core.Bool.{Bool, true, false, _&&_}
 use mathlib.Core.List.{List, [], _∷_, _++_, append-assoc}
 use lib.ListN.{length, take, drop, getD, length-append, length-take, length-drop, drop-of-length-le}
-use lib.Seq.{take-all, take-at, drop-at, drop-append-add, getD-drop, drop-drop, take-take, take-nil}
+use lib.Seq.{take-all, take-at, drop-at, drop-append-add, getD-drop, drop-drop, take-take, take-nil, take-add}
 use lib.Dec.{T, eqb, eqb→eq, eqb-refl, leb}
 use borrow.Author.Tests.{leb-true, leb-false}
 use Rattle.fields.specs.Lists.{All, total}
@@ -196,6 +196,11 @@ length-join [] (x ∷ xs) f = absurd f
 length-join (w ∷ ws) [] f = absurd f
 length-join (w ∷ ws) (x ∷ xs) f = simp (length-append, f .0, length-join ws xs (f .1))
 
+pub join-append : (xs ys : List Bytes) → join (xs ++ ys) ≡ join xs ++ join ys
+unfolding join
+join-append [] ys = refl
+join-append (x ∷ xs) ys = rw (join-append xs ys, append-assoc x (join xs) (join ys))
+
 -- ---- pieces of one width
 
 pub length-pieces : (n w : ℕ) (s : Bytes) → length (pieces n w s) ≡ n
@@ -241,3 +246,36 @@ unfolding pieces part
 pieces-step n w at s h =
     let e : n ≡ suc (n - 1) = omega arith in
     ap (λ (k : ℕ). pieces k w (drop at s)) e ∙ rw drop-drop
+
+-- ---- pieces in two parts
+
+pub mul-suc : (n w : ℕ) → suc n * w ≡ w + n * w
+mul-suc n w = rw suc-mul (omega arith)
+
+pub join-pieces : (n w : ℕ) (s : Bytes) → join (pieces n w s) ≡ take (n * w) s
+unfolding join pieces
+join-pieces zero w s = let e : 0 * w ≡ 0 = omega arith in rw e
+join-pieces (suc n) w s = rw (join-pieces n w (drop w s), mul-suc n w, take-add w (n * w) s)
+
+drop-take-add : (w m : ℕ) (s : Bytes) → drop w (take (w + m) s) ≡ take m (drop w s)
+drop-take-add zero m s = let e : 0 + m ≡ m = omega arith in rw e
+drop-take-add (suc w) m [] = rw (take-nil (suc w + m), take-nil m)
+drop-take-add (suc w) m (x ∷ xs) = let e : suc w + m ≡ suc (w + m) = omega arith in rw e (drop-take-add w m xs)
+
+-- pieces of a prefix that holds them
+pieces-take : (n w : ℕ) (s : Bytes) → pieces n w (take (n * w) s) ≡ pieces n w s
+unfolding pieces
+pieces-take zero w s = refl
+pieces-take (suc n) w s = rw (mul-suc n w, take-take w (w + n * w) s (omega arith), drop-take-add w (n * w) s, pieces-take n w (drop w s))
+
+pub pieces-part : (n w at : ℕ) (s : Bytes) → pieces n w (part at (n * w) s) ≡ pieces n w (drop at s)
+unfolding part
+pieces-part n w at s = pieces-take n w (drop at s)
+
+-- the first n pieces, and those behind them
+pub pieces-split : (n m w : ℕ) (s : Bytes) → pieces (n + m) w s ≡ pieces n w s ++ pieces m w (drop (n * w) s)
+unfolding pieces
+pieces-split zero m w s = let e : 0 + m ≡ m = omega arith in let z : 0 * w ≡ 0 = omega arith in rw (e, z)
+pieces-split (suc n) m w s =
+    let e : suc n + m ≡ suc (n + m) = omega arith in
+    rw (e, mul-suc n w, pieces-split n m w (drop w s), drop-drop (n * w) w s)

@@ -70,6 +70,17 @@ module _ {ℓ} {A : Type ℓ} where
   length-kept p [] = omega arith
   length-kept p (x ∷ xs) = omega (arith, length-consIf (p x) x (kept p xs), length-kept p xs)
 
+  -- where as many are kept as there are, all are
+  pub kept-whole : (p : A → Bool) (l : List A) → length (kept p l) ≡ length l → kept p l ≡ l
+  unfolding kept consIf
+  kept-whole p [] e = refl
+  kept-whole p (x ∷ xs) e = go (p x) (λ h. kept-whole p xs h) (length-kept p xs) e
+    where
+      go : (b : Bool) → (length (kept p xs) ≡ length xs → kept p xs ≡ xs) → length (kept p xs) ≤ length xs
+          → length (consIf b x (kept p xs)) ≡ length (x ∷ xs) → consIf b x (kept p xs) ≡ x ∷ xs
+      go true again few e = ap (λ (r : List A). x ∷ r) (again (omega arith))
+      go false again few e = absurd (omega arith)
+
   consIf-append : (b : Bool) (x : A) (xs ys : List A) → consIf b x (xs ++ ys) ≡ consIf b x xs ++ ys
   unfolding consIf
   consIf-append true x xs ys = refl

@@ -1,4 +1,5 @@
-// Copying bytes, 16 at a time. What has no room is left out.
+// Copying bytes, 16 at a time. `copy` leaves out what has no room, `copy_whole` all of it where there is not room for
+// all.
 ghost use mathlib.Core.Path.{_≡_};
 ghost use mathlib.Core.Bool.{cond};
 ghost use Prim.Native.Nat.{_+_, _≤_};

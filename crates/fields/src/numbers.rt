@@ -19,7 +19,7 @@ pub fn fits_in(length: usize, at: usize, n: usize) -> bool
 }
 
 // The smaller of the two.
-pub(crate) fn least(a: usize, b: usize) -> usize
+pub fn least(a: usize, b: usize) -> usize
     ensures { λ r. ⌜ r ≡ min a b ⌝ }
 {
     if a < b { a } else { b }

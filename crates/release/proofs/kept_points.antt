@@ -1,3 +1,4 @@
 pub mod KeptPointLaws
 pub mod LoopLaws
+pub mod PickedLaws
 mod ChooseLaws

@@ -1,18 +1,21 @@
 // The point copier: writes the points that a table of the classes keeps, and no byte of another, and tallies them.
 ghost use mathlib.Core.Path.{_≡_};
 ghost use mathlib.Core.List.{_++_};
-ghost use Prim.Native.Nat.{_*_, _^_, _<_, _≤_, min};
+ghost use Prim.Native.Nat.{_*_, _^_, _<_, _≤_};
 ghost use lib.ListN.{length, take};
 ghost use lib.Seq.{sets};
 ghost use Rattle.fields.specs.Bytes.{join, zeros};
 ghost use Rattle.tally.specs.Tally.{tallyOf};
 ghost use Rattle.release.specs.KeptPoints.{keptPoints, keptOf, picked, Places};
 use crate::kept_points;
-use crate::kept_points::BLOCK;
 use fields::copying;
+use fields::numbers;
 use fields::slices;
 use points::raw;
 use tally::Tally;
+
+// How many records are looked at before the kept ones among them are copied: so many stay in the first-level cache.
+const BLOCK: usize = 64;
 
 // Writes the records at the first k of the chosen places of a block to the front of `out`, one behind the other.
 fn copy_chosen(block: &[u8], record_length: usize, chosen: &[usize], k: usize, out: &mut [u8])
@@ -66,15 +69,8 @@ fn copy_block(
     k
 }
 
-// How many of the records that are left are in the next block.
-fn in_block(left: usize) -> usize
-    ensures { λ r. ⌜ r ≡ min left 64 ⌝ }
-{
-    if left < BLOCK { left } else { BLOCK }
-}
-
 // Writes the kept points of a run that holds them all to the front of `out`, block by block, and nothing else, and
-// tallies the kept points of each block where they stand now, while they are in the nearest cache.
+// tallies the kept points of each block where they stand now, while they are in the first-level cache.
 fn copy_run(
     run: &[u8],
     format: u8,
@@ -94,13 +90,13 @@ fn copy_run(
         ≡ sets (now (out .entry)) 0
         (join (keptOf (now (table .entry)) format count «record_length» (now (run .entry))))) ⌝ }
 {
-    let mut chosen = [0usize; 64];
+    let mut chosen = [0usize; BLOCK];
     let mut t = tally::fresh();
     let mut at = 0;
     let mut to = 0;
     let mut left = count;
     while 0 < left {
-        let n = in_block(left);
+        let n = numbers::least(left, BLOCK);
         let next = at + n * record_length;
         let k = copy_block(
             &run[at..next],

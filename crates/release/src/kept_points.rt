@@ -8,9 +8,6 @@ ghost use Rattle.release.specs.KeptPoints.{keptPoints, keptOf, picked, P
 use points::raw;
 use sheet::class_table;
 
-// How many records are looked at before the kept ones among them are copied: 64 keep to the nearest cache.
-pub(crate) const BLOCK: usize = 64;
-
 // What a point counts. The compiler makes no branch of it.
 fn one_if(keep: bool) -> usize
     ensures { λ r. ⌜ (r ≡ cond keep 1 0) × (r ≤ 1) ⌝ }

@@ -17,8 +17,8 @@ use lasfile::header;
 use publicpart::Answer;
 use sheet::class_table;
 
-// The room that an output must have for points from `start` on. Where it has room for all the points of the file there
-// is none too few, and they are not counted: their number comes out of the writing.
+// The room that is asked of an output for points from `start` on. One with room for all the points of the file is asked
+// for that much, and the kept ones are not counted: their number comes out of the writing.
 fn room_for(file: &[u8], table: &[bool; 256], start: usize, room: usize) -> usize
     requires { ⌜ start + pointCount (now file) * recordLength (now file) < 2 ^ 64 ⌝ }
     ensures { λ r. ⌜ r ≡ roomAsked (now (table .entry)) (now (file .entry)) start room ⌝ }

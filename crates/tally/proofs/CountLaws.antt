@@ -132,6 +132,3 @@ pub more-of : (f : ℕ) (ps qs : List Bytes) → length ps < 2 ^ 32 → tallyMor
 more-of f ps qs h =
     more-fits f (tallyOf f ps) qs (fit (tallyOf f ps) (counts-few f 4294967295 ps (omega arith)))
     ∙ unfold tallyOf in sym (foldl-append (tallied f) noTally ps qs)
-
-pub more-first : (f : ℕ) (ps : List Bytes) → tallyMore f noTally ps ≡ tallyOf f ps
-more-first f ps = more-fits f noTally ps (fit noTally (counts-none 4294967295)) ∙ unfold tallyOf in refl

@@ -39,7 +39,9 @@ inFour n = leb n 4294967295
 
 -- no bin is above what 4 bytes hold
 unfoldable pub binsFit : Bins → Bool
-binsFit b = (((inFour (b .first) && inFour (b .second)) && inFour (b .third)) && inFour (b .fourth)) && inFour (b .fifth)
+binsFit b =
+    (((inFour (b .first) && inFour (b .second)) && inFour (b .third)) && inFour (b .fourth))
+    && inFour (b .fifth)
 
 -- ---- what the code's helpers use; no public contract cites these
 

@@ -26,7 +26,12 @@ noTally =
 
 -- the tally with one point more, which adds this to the bins and has these coordinates
 unfoldable pub tallyWith : Tally → Bins → Stored → Tally
-tallyWith t one p = record { count = t .count + 1; bins = binsWith (t .bins) one; extremes = extremesWith (t .extremes) p }
+tallyWith t one p =
+    record {
+      count = t .count + 1;
+      bins = binsWith (t .bins) one;
+      extremes = extremesWith (t .extremes) p;
+    }
 
 -- the tally with one point more, by its format and bytes
 unfoldable pub tallied : ℕ → Tally → Bytes → Tally

@@ -6,8 +6,8 @@ ghost use mir.Val.{boolByte};
 ghost use Rattle.tally.specs.Bins.{oneAmongZeros, oneIn, binsWith, binsFit, BinsUpTo};
 use crate::Bins;
 
-// The largest number of 4 bytes.
-pub(crate) const MOST: u64 = 4294967295;
+// The largest number that 4 bytes hold.
+pub(crate) const LARGEST: u64 = 4294967295;
 
 // Twelve numbers, of which number 5 is 1 and the others are 0. They are made once for many points: a look-up in them
 // costs less than to compare a return number with a bin's.
@@ -63,9 +63,9 @@ pub(crate) fn binned(b: Bins, one: Bins) -> Bins
 pub(crate) fn bins_fit(b: Bins) -> bool
     ensures { λ r. ⌜ r ≡ binsFit b ⌝ }
 {
-    (b.first <= MOST)
-        & (b.second <= MOST)
-        & (b.third <= MOST)
-        & (b.fourth <= MOST)
-        & (b.fifth <= MOST)
+    (b.first <= LARGEST)
+        & (b.second <= LARGEST)
+        & (b.third <= LARGEST)
+        & (b.fourth <= LARGEST)
+        & (b.fifth <= LARGEST)
 }

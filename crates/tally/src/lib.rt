@@ -9,7 +9,8 @@ ghost use lib.ListN.{length};
 ghost use Rattle.fields.specs.Bytes.{pieces};
 ghost use Rattle.points.specs.Raw.{pointsOf};
 ghost use Rattle.tally.specs.Bins.{oneAmongZeros, BinsUpTo};
-ghost use Rattle.tally.specs.Tally.{noTally, tallyWith, tallied, tallyOf, tallyMore, countsFit, CountsUpTo, tallyBounds};
+ghost use Rattle.tally.specs.Tally.{noTally, tallyWith, tallied, tallyMore, countsFit, CountsUpTo};
+ghost use Rattle.tally.specs.Tally.{tallyBounds};
 use points::raw;
 use points::raw::Stored;
 use scaling::Bounds;
@@ -60,7 +61,7 @@ pub fn fresh() -> Tally
 fn counts_fit(t: Tally) -> bool
     ensures { λ r. ⌜ r ≡ countsFit t ⌝ }
 {
-    (t.count <= by_return::MOST) & by_return::bins_fit(t.bins)
+    (t.count <= by_return::LARGEST) & by_return::bins_fit(t.bins)
 }
 
 // The tally with one point more, which adds `one` to the bins.
@@ -129,13 +130,6 @@ pub fn tally_more(t: Tally, run: &[u8], format: u8, record_length: usize, count:
         return tally_run(t, run, format, record_length, count);
     }
     t
-}
-
-// The tally of these records; of no point where the run does not hold them.
-pub fn tally_points(run: &[u8], format: u8, record_length: usize, count: usize) -> Tally
-    ensures { λ r. ⌜ r ≡ tallyOf format (pointsOf count «record_length» (now (run .entry))) ⌝ }
-{
-    tally_more(fresh(), run, format, record_length, count)
 }
 
 // The bits of the bounds: of the coordinates of the extremes, or of +0.0 where there is no point.

@@ -4,7 +4,7 @@ use std::hint::black_box;
 use std::time::Duration;
 
 use crate::builds::Builds;
-use crate::cases::MILLION;
+use crate::cases::COMMON;
 use crate::library::Library;
 use crate::sample::HEADER;
 use crate::table::Table;
@@ -13,12 +13,12 @@ use crate::timing::{Side, medians, per_item, ratio, time};
 const ROUNDS: usize = 9;
 /// How often a file is checked in one turn.
 const CHECKS: usize = 100_000;
-const FORMAT: u8 = MILLION.format;
-const LENGTH: usize = MILLION.record_length();
+const FORMAT: u8 = COMMON.format;
+const LENGTH: usize = COMMON.record_length();
 
 /// Times checks, decoding and encoding, and prints the figures.
 pub fn compare(builds: &Builds) {
-    let file = MILLION.file();
+    let file = COMMON.file();
     let points = &file[HEADER..];
     assert_passes(builds, &file);
     assert_round_trips(builds, &points[..1_000 * LENGTH]);
@@ -35,9 +35,9 @@ pub fn compare(builds: &Builds) {
     );
     print("check_file", CHECKS, checks);
     let decodes = sides(builds, decode_plain, decode);
-    print("decode", MILLION.points, decodes);
+    print("decode", COMMON.points, decodes);
     let encodes = sides(builds, encode_plain, encode);
-    print("encode", MILLION.points, encodes);
+    print("encode", COMMON.points, encodes);
 }
 
 /// las_plain, then each build; the room of a turn holds point records.

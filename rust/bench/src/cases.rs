@@ -5,7 +5,7 @@ use std::fmt;
 use crate::sample::{Sample, Shape};
 
 /// The case that the others differ from in one thing each.
-pub const MILLION: Sample = Sample {
+pub const COMMON: Sample = Sample {
     points: 1_000_000,
     shape: Shape::Random,
     format: 1,
@@ -26,13 +26,13 @@ pub enum Output {
 
 /// The files, the common one first.
 pub fn samples() -> Vec<Sample> {
-    let mut samples = vec![MILLION];
+    let mut samples = vec![COMMON];
     let shapes = [Shape::All, Shape::None, Shape::Runs(1), Shape::Runs(1_000)];
-    samples.extend(shapes.map(|shape| Sample { shape, ..MILLION }));
-    samples.extend([0, 2, 3].map(|format| Sample { format, ..MILLION }));
-    samples.extend([12, 36].map(|extra| Sample { extra, ..MILLION }));
-    let others = SIZES.iter().filter(|&&points| points != MILLION.points);
-    samples.extend(others.map(|&points| Sample { points, ..MILLION }));
+    samples.extend(shapes.map(|shape| Sample { shape, ..COMMON }));
+    samples.extend([0, 2, 3].map(|format| Sample { format, ..COMMON }));
+    samples.extend([12, 36].map(|extra| Sample { extra, ..COMMON }));
+    let others = SIZES.iter().filter(|&&points| points != COMMON.points);
+    samples.extend(others.map(|&points| Sample { points, ..COMMON }));
     samples
 }
 

@@ -1,6 +1,6 @@
 //! The time for each point as files grow, read off the rows of the releases.
 
-use crate::cases::{MILLION, Output, SIZES};
+use crate::cases::{COMMON, Output, SIZES};
 use crate::releases::Row;
 use crate::report::{sides, times};
 use crate::sample::Sample;
@@ -23,7 +23,7 @@ pub fn print(rows: &[Row], before: bool) {
 
 /// Nanoseconds for each point, side by side, of the common case at this size.
 fn per_point(rows: &[Row], points: usize) -> Vec<f64> {
-    let sample = Sample { points, ..MILLION };
+    let sample = Sample { points, ..COMMON };
     let is_it = |row: &&Row| row.sample == sample && row.output == Output::File;
     let row = rows.iter().find(is_it).expect("every size has a row");
     let each = |time| per_item(time, points);

@@ -61,12 +61,12 @@ pub fn cells(row: &Row) -> Vec<String> {
 #[cfg(test)]
 mod tests {
     use super::*;
-    use crate::cases::{MILLION, Output};
+    use crate::cases::{COMMON, Output};
 
     fn row(before: Option<Duration>) -> Row {
         let [copy, plain, ours] = [2, 8, 4].map(Duration::from_millis);
         Row {
-            sample: MILLION,
+            sample: COMMON,
             output: Output::Exact,
             medians: Medians {
                 copy,

@@ -4,7 +4,7 @@
 //! is released.
 
 mod power_cut {
-    pub mod desk;
+    pub mod folder;
     pub mod scan;
 }
 
@@ -13,7 +13,7 @@ use std::io::Write;
 use std::time::Duration;
 
 use compare::rng::{FIXED_SEED, Rng};
-use power_cut::desk::Desk;
+use power_cut::folder::ReleaseFolder;
 use power_cut::scan::{self, DROPPED, MARKER};
 
 /// For each length of the output.
@@ -64,14 +64,14 @@ impl fmt::Display for Outcome {
 /// Kills releases into an output of the length of `released`, which is what they write where they are let be.
 fn cut_releases(file: &[u8], sheet: &[u8], released: &[u8]) -> Outcome {
     assert!(!released.contains(&DROPPED));
-    let desk = Desk::new(file, sheet, vec![MARKER; released.len()]);
+    let folder = ReleaseFolder::new(file, sheet, vec![MARKER; released.len()]);
     let mut rng = Rng::new(FIXED_SEED);
     let (mut cut, mut leaks) = (0, Vec::new());
     for _ in 0..ROUNDS {
-        let whole = whole_release(&desk, released);
+        let whole = whole_release(&folder, released);
         for _ in 0..TRIALS_OF_ROUND {
-            desk.cut_release(whole.mul_f64(rng.below(1_200) as f64 / 1_000.0));
-            let output = desk.output();
+            folder.cut_release(whole.mul_f64(rng.below(1_200) as f64 / 1_000.0));
+            let output = folder.output();
             let begun = output.iter().any(|&byte| byte != MARKER);
             cut += usize::from(begun && output != released);
             leaks.extend(output.iter().position(|&byte| byte == DROPPED));
@@ -86,10 +86,10 @@ fn cut_releases(file: &[u8], sheet: &[u8], released: &[u8]) -> Outcome {
 }
 
 /// The median time of three releases that nothing disturbs. Each has to write what las_plain does.
-fn whole_release(desk: &Desk, released: &[u8]) -> Duration {
+fn whole_release(folder: &ReleaseFolder, released: &[u8]) -> Duration {
     let mut times = [(); 3].map(|()| {
-        let time = desk.release();
-        assert!(desk.output() == released, "the outputs differ");
+        let time = folder.release();
+        assert!(folder.output() == released, "the outputs differ");
         time
     });
     times.sort();

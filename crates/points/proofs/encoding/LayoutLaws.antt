@@ -9,7 +9,7 @@ use lib.ListN.{length, length-append}
 use lib.Seq.{sets}
 use Rattle.fields.specs.Lists.{total}
 use Rattle.fields.specs.Bytes.{Bytes, Fit, join}
-use Rattle.fields.proofs.ByteLaws.{length-join, length-bytesOf}
+use Rattle.fields.proofs.ByteLaws.{length-join, length-bytesOf, join-append}
 use Rattle.fields.proofs.StoreLaws.{sets-append}
 use Rattle.points.specs.declared.formats.Place.{Place}
 use Rattle.points.specs.declared.formats.Place.the-variants.{At, Absent}
@@ -45,11 +45,6 @@ pub length-colour : (place : Place) (q : Point) → length (join (colourFields p
 unfolding colourFields colours total
 length-colour place q =
     length-placed place (2 ∷ 2 ∷ 2 ∷ []) _ (length-bytesOf 2 (q .red), (length-bytesOf 2 (q .green), (length-bytesOf 2 (q .blue), tt)))
-
-pub join-append : (xs ys : List Bytes) → join (xs ++ ys) ≡ join xs ++ join ys
-unfolding join
-join-append [] ys = refl
-join-append (x ∷ xs) ys = rw (join-append xs ys, append-assoc x (join xs) (join ys))
 
 -- the bytes of a point, group by group
 pub bytes-groups : (f : ℕ) (q : Point) → pointBytes f q ≡ join (sharedFields q) ++ (join (timeFields (timePlace f) q) ++ join (colourFields (colourPlace f) q))

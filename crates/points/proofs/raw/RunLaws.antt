@@ -2,7 +2,6 @@
 -- Assumes nothing.
 use mathlib.Core.Path.{_≡_, refl, sym}
 use Prim.Native.Nat.{ℕ, zero, suc, _-_, _+_, _*_, _^_, _≤_, _<_}
-use native.Mathlib.Nat.{suc-mul}
 use native.Mathlib.Numerals.{sub-one}
 use native.Mathlib.Omega.{arith}
 use borrow.Author.Tests.{lt-ltb, le-leb, leb-true, ltb-true}
@@ -12,6 +11,7 @@ use lib.ListN.{length, take, drop}
 use lib.Dec.{ltb, leb}
 use Rattle.fields.specs.Lists.{listIf}
 use Rattle.fields.specs.Bytes.{Bytes, pieces}
+use Rattle.fields.proofs.ByteLaws.{mul-suc}
 use Rattle.points.specs.Raw.{inRun, pointsOf}
 
 -- what it means that a run holds its records
@@ -48,4 +48,4 @@ pieces-step (suc n) len s h = rw sub-one
 
 pub mul-step : (left len : ℕ) → 0 < left → left * len ≡ len + (left - 1) * len
 mul-step zero len h = absurd (omega arith)
-mul-step (suc n) len h = rw (sub-one, suc-mul) (omega arith)
+mul-step (suc n) len h = rw sub-one (mul-suc n len)

@@ -4,15 +4,15 @@
 use mathlib.Core.Path.{_≡_, refl, sym, ap, _∙_}
 use Prim.Native.Nat.{ℕ, zero, suc, _+_, _-_, _*_, _^_, _≤_, _<_}
 use native.Mathlib.Omega.{arith}
-use native.Mathlib.Nat.{suc-mul, add-mul}
-use mathlib.Core.Bool.{Bool, true, false}
-use mathlib.Core.List.{List, [], _∷_, _++_, append-assoc}
+use native.Mathlib.Nat.{add-mul}
+use mathlib.Core.Bool.{Bool}
+use mathlib.Core.List.{List, [], _++_, append-assoc}
 use lib.ListN.{length, take, drop, length-append, length-drop}
-use lib.Seq.{sets, length-sets, length-take-le, take-add, take-take, drop-drop, take-nil, sets-eq, drop-at}
-use Rattle.fields.specs.Lists.{All, kept, consIf}
+use lib.Seq.{sets, length-sets, length-take-le, drop-drop, sets-eq, drop-at}
+use Rattle.fields.specs.Lists.{All, kept}
 use Rattle.fields.specs.Bytes.{Bytes, part, pieces, join}
-use Rattle.fields.proofs.ByteLaws.{length-pieces, pieces-width, length-join-pieces, pieces-back}
-use Rattle.fields.proofs.ListLaws.{length-kept, kept-append, All-kept}
+use Rattle.fields.proofs.ByteLaws.{length-part, length-pieces, pieces-width, length-join-pieces, pieces-back, join-append, join-pieces, pieces-part, pieces-split}
+use Rattle.fields.proofs.ListLaws.{length-kept, kept-whole, kept-append, All-kept}
 use Rattle.fields.proofs.StoreLaws.{sets-append}
 use Rattle.points.specs.Raw.{pointsOf}
 use Rattle.points.proofs.raw.RunLaws.{points-held}
@@ -20,68 +20,20 @@ use Rattle.tally.specs.declared.Tally.{Tally}
 use Rattle.tally.specs.Tally.{noTally, tallyOf, tallyMore}
 use Rattle.tally.proofs.CountLaws.{more-of}
 use Rattle.release.specs.KeptPoints.{picked}
+use Rattle.release.proofs.kept_points.PickedLaws.{length-picked}
 use Rattle.release.proofs.kept_points.LoopLaws.{Looked, begun, done-all}
 
 -- ---- a block
-
-length-picked : (w : ℕ) (run : Bytes) (ps : List ℕ) → length (picked w run ps) ≡ length ps
-unfolding picked
-length-picked w run [] = refl
-length-picked w run (x ∷ xs) = rw (length-picked w run xs)
 
 -- as many were chosen as are kept
 pub chosen-count : (w : ℕ) (run : Bytes) (chosen : List ℕ) (k : ℕ) (ks : List Bytes) → k ≤ length chosen → picked w run (take k chosen) ≡ ks → k ≡ length ks
 chosen-count w run chosen k ks h e = rw (← e, length-picked, length-take-le k chosen h)
 
--- where as many are kept as there are, all are
-kept-whole : (p : Bytes → Bool) (l : List Bytes) → length (kept p l) ≡ length l → kept p l ≡ l
-unfolding kept consIf
-kept-whole p [] e = refl
-kept-whole p (x ∷ xs) e = go (p x) (λ h. kept-whole p xs h) (length-kept p xs) e
-  where
-    go : (b : Bool) → (length (kept p xs) ≡ length xs → kept p xs ≡ xs) → length (kept p xs) ≤ length xs
-        → length (consIf b x (kept p xs)) ≡ length (x ∷ xs) → consIf b x (kept p xs) ≡ x ∷ xs
-    go true again few e = ap (λ (r : List Bytes). x ∷ r) (again (omega arith))
-    go false again few e = absurd (omega arith)
-
-mul-suc : (n w : ℕ) → suc n * w ≡ w + n * w
-mul-suc n w = rw suc-mul (omega arith)
-
-join-pieces : (n w : ℕ) (s : Bytes) → join (pieces n w s) ≡ take (n * w) s
-unfolding join pieces
-join-pieces zero w s = let e : 0 * w ≡ 0 = omega arith in rw e
-join-pieces (suc n) w s =
-    let e : suc n * w ≡ w + n * w = mul-suc n w in
-    rw (join-pieces n w (drop w s), e, take-add w (n * w) s)
-
+-- a block of which all are kept is one run
 pub whole-block : (p : Bytes → Bool) (n w : ℕ) (s : Bytes) → n ≡ length (kept p (pieces n w s)) → take (n * w) s ≡ join (kept p (pieces n w s))
 whole-block p n w s e = rw (kept-whole p (pieces n w s) (rw (length-pieces n w s) (sym e)), join-pieces n w s)
 
 -- ---- a run, block by block
-
-drop-take-add : (w m : ℕ) (s : Bytes) → drop w (take (w + m) s) ≡ take m (drop w s)
-drop-take-add zero m s = let e : 0 + m ≡ m = omega arith in rw e
-drop-take-add (suc w) m [] = rw (take-nil (suc w + m), take-nil m)
-drop-take-add (suc w) m (x ∷ xs) = let e : suc w + m ≡ suc (w + m) = omega arith in rw e (drop-take-add w m xs)
-
-join-append : (xs ys : List Bytes) → join (xs ++ ys) ≡ join xs ++ join ys
-unfolding join
-join-append [] ys = refl
-join-append (x ∷ xs) ys = rw (join-append xs ys, append-assoc)
-
-pieces-take : (n w : ℕ) (s : Bytes) → pieces n w (take (n * w) s) ≡ pieces n w s
-unfolding pieces
-pieces-take zero w s = refl
-pieces-take (suc n) w s =
-    let e = mul-suc n w in
-    rw (e, take-take w (w + n * w) s (omega arith), drop-take-add w (n * w) s, pieces-take n w (drop w s))
-
-pieces-split : (n m w : ℕ) (s : Bytes) → pieces (n + m) w s ≡ pieces n w s ++ pieces m w (drop (n * w) s)
-unfolding pieces
-pieces-split zero m w s = let e : 0 + m ≡ m = omega arith in let z : 0 * w ≡ 0 = omega arith in rw (e, z)
-pieces-split (suc n) m w s =
-    let e : suc n + m ≡ suc (n + m) = omega arith in
-    rw (e, mul-suc n w, pieces-split n m w (drop w s), drop-drop (n * w) w s)
 
 -- `left` records from `at` on are still to look at; the kept ones before them stand at the front of the output, and
 -- nothing else has changed there
@@ -101,7 +53,7 @@ module _ (keep : Bytes → Bool) (f w count : ℕ) (run out₀ : Bytes) (space :
 
   module _ (out : Bytes) (left at to : ℕ) (t : Tally) (c : Blocked keep f w count run out₀ out left at to t) (n : ℕ) (few : n ≤ left) where
     abbrev block : Bytes
-    block = take (n * w) (drop at run)
+    block = part at (n * w) run
 
     -- the kept records of the block, and those behind it
     abbrev pub ks : List Bytes
@@ -123,7 +75,7 @@ module _ (keep : Bytes → Bool) (f w count : ℕ) (run out₀ : Bytes) (space :
     parts =
         let e : pieces (n + (left - n)) w (drop at run) ≡ pieces n w (drop at run) ++ pieces (left - n) w (drop (n * w) (drop at run)) = pieces-split n (left - n) w (drop at run) in
         let g : pieces left w (drop at run) ≡ pieces n w (drop at run) ++ pieces (left - n) w (drop (at + n * w) run) = rw (split-left, drop-drop (n * w) at run) at e in
-        rw (g, kept-append, pieces-take n w (drop at run))
+        rw (g, kept-append, pieces-part n w at run)
 
     whole : c .done ++ (ks ++ later) ≡ kept keep (pieces count w run)
     whole = rw parts at (c .looked .all)
@@ -144,7 +96,7 @@ module _ (keep : Bytes → Bool) (f w count : ℕ) (run out₀ : Bytes) (space :
 
     widths : All (λ p. length p ≡ w) ks
     widths =
-        let held : length block ≡ n * w = length-take-le (n * w) (drop at run) (simp length-drop (omega (arith, block-in))) in
+        let held : length block ≡ n * w = length-part at (n * w) run block-in in
         All-kept (λ p. length p ≡ w) keep (pieces n w block) (pieces-width n w block (rw held (omega arith)))
 
     long-block : length (join ks) ≡ length ks * w

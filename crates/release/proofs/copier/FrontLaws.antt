@@ -18,6 +18,7 @@ over-all d xs h =
     sym (sets-room d 0 n xs (omega arith)) ∙ sets-eq (take n xs) d 0 (omega arith)
     ∙ rw (z, drop-of-length-le d {i = n} (omega arith)) (append-nil (take n xs))
 
+-- the bytes f stand at the front, and zeros are stored from their end on
 pub zeroed : (d f : Bytes) (to : ℕ) → to ≡ length f → sets (sets d 0 f) to (zeros (length d)) ≡ take (length d) (f ++ zeros (length d))
 zeroed d f to e =
     let z : 0 + length f ≡ to = omega arith in

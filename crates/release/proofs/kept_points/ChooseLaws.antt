@@ -10,6 +10,7 @@ use lib.ListN.{length, take, set, length-set}
 use Rattle.fields.specs.Lists.{kept, consIf}
 use Rattle.fields.specs.Bytes.{Bytes, part, pieces}
 use Rattle.release.specs.KeptPoints.{picked, Places}
+use Rattle.release.proofs.kept_points.PickedLaws.{picked-one}
 use Rattle.release.proofs.kept_points.LoopLaws.{Looked, step-le, begun, done-all, ends, next}
 
 -- a value put behind the first k, and counted or not
@@ -22,18 +23,13 @@ take-put (suc k) (x ∷ xs) v b h =
     let e : suc k + cond b 1 0 ≡ suc (k + cond b 1 0) = omega arith in
     rw e (ap (λ (r : List ℕ). x ∷ r) (take-put k xs v b (omega arith)))
 
-picked-one : (w : ℕ) (run : Bytes) (ps : List ℕ) (b : Bool) (a : ℕ) → picked w run (ps ++ consIf b a []) ≡ picked w run ps ++ consIf b (part a w run) []
-unfolding picked consIf
-picked-one w run [] true a = refl
-picked-one w run [] false a = refl
-picked-one w run (x ∷ xs) b a = ap (λ (r : List Bytes). part x w run ∷ r) (picked-one w run xs b a)
-
 places-one : (w : ℕ) (run : Bytes) (ps : List ℕ) (b : Bool) (a : ℕ) → Places w run ps → a + w ≤ length run → Places w run (ps ++ consIf b a [])
 unfolding consIf
 places-one w run [] true a h e = (e, tt)
 places-one w run [] false a h e = tt
 places-one w run (x ∷ xs) b a h e = (h .0, places-one w run xs b a (h .1) e)
 
+-- `left` records from `at` on are still to look at; the first k places are those of the kept ones before them
 pub record Chosen (keep : Bytes → Bool) (w n : ℕ) (run : Bytes) (chosen₀ chosen : List ℕ) (left at k : ℕ) : Type 0 where
   pub done : List Bytes
   pub looked : Looked keep w n run done left at

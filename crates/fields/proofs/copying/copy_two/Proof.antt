@@ -9,7 +9,7 @@ use Rattle.fields.proofs.copying.copy_two.Statement.{statement}
 use Rattle.fields.proofs.copying.copy_two.Tie as tie
 
 copy-16-requires : tie.Need-copy-16-requires
-copy-16-requires c κs = search needs
+copy-16-requires c κs = (omega arith, omega arith)
 
 sub-last : tie.Need-sub-last
 sub-last c = search needs

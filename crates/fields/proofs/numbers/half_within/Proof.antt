@@ -1,7 +1,7 @@
 -- `fields::numbers::half_within` meets its contract. The loop goes from the lowest byte up: r is the number of the
 -- first i bytes, and unit is 256 ^ i.
 -- Assumes nothing.
-use mathlib.Core.Path.{_≡_, refl, sym, _∙_}
+use mathlib.Core.Path.{_≡_, refl, sym}
 use Prim.Native.Nat.{ℕ, suc, _+_, _-_, _*_, _^_, _≤_, _<_}
 use native.Mathlib.Nat.{mul-le-mul-left, pow-le-pow-right, pow-succ'}
 use native.Mathlib.Numerals.{add-one}

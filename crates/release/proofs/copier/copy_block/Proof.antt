@@ -9,6 +9,7 @@ use lib.Seq.{sets, length-take-le}
 use Rattle.fields.specs.Bytes.{Bytes, join}
 use Rattle.fields.proofs.StoreLaws.{stored-whole}
 use Rattle.sheet.specs.Keeping.{inTable}
+use Rattle.release.specs.KeptPoints.{keptOf}
 use Rattle.release.proofs.copier.BlockLaws.{chosen-count, whole-block}
 use borrow.Author.Needs.{needs}
 use Rattle.release.proofs.copier.copy_block.Statement.{statement}
@@ -26,14 +27,22 @@ slice-aggregate-copy-whole c = let s = c .before .before .before .before .before
 copy-whole-requires : tie.Need-copy-whole-requires
 copy-whole-requires c κs = search needs
 
+-- as many are chosen as are kept
+counted : (c : tie.After-choose)
+    → let a = c .before .before .before .before .before .args in
+    c .choose .result ≡ length (keptOf (now (a .table)) (a .format) (a .n) (a .record-length) (now (a .block)))
+counted c =
+    let s = c .before .before .before .before .before in
+    let call = c .choose in
+    chosen-count (s .args .record-length) (now (s .args .block)) _ (call .result) _ (omega (arith, call .ensures .0, call .kept .1 .1 .1 .1 .1 .0, s .pre .1)) (call .ensures .1)
+
 copy-chosen-requires : tie.Need-copy-chosen-requires
 copy-chosen-requires c κs =
     let s = c .before .before .before .before .before .before .before .before .before .before in
     let call = c .before .before .before .before .before .choose in
     let size = call .kept .1 .1 .1 .1 .1 .0 in
     let few = call .ensures .0 in
-    let count = chosen-count (s .args .record-length) (now (s .args .block)) _ (call .result) _ (omega (arith, few, size, s .pre .1)) (call .ensures .1) in
-    (omega (arith, few, s .pre .0), omega (arith, few, size, s .pre .1), call .ensures .2, rw count (s .pre .3))
+    (omega (arith, few, s .pre .0), omega (arith, few, size, s .pre .1), call .ensures .2, rw (counted (c .before .before .before .before .before)) (s .pre .3))
 
 same-length : tie.Need-same-length
 same-length c = search needs
@@ -46,7 +55,7 @@ returns c =
     let s = c .before .before .before .before .before .before .before .before .before .before .before .before .before in
     let a = s .args in
     let call = c .before .before .before .before .before .before .before .before .choose in
-    let count = chosen-count (a .record-length) (now (a .block)) _ (call .result) _ (omega (arith, call .ensures .0, call .kept .1 .1 .1 .1 .1 .0, s .pre .1)) (call .ensures .1) in
+    let count = counted (c .before .before .before .before .before .before .before .before) in
     let all : call .result ≡ a .n = omega arith in
     let whole = whole-block (inTable (now (a .table)) (a .format)) (a .n) (a .record-length) (now (a .block)) (sym all ∙ count) in
     let long = length-take-le (a .n * a .record-length) (now (a .block)) (s .pre .2) in
@@ -64,7 +73,7 @@ returns-2 c =
     let s = c .before .before .before .before .before .before .before .before .before .before .before .before .before in
     let a = s .args in
     let call = c .before .before .before .before .before .before .before .before .choose in
-    let count = chosen-count (a .record-length) (now (a .block)) _ (call .result) _ (omega (arith, call .ensures .0, call .kept .1 .1 .1 .1 .1 .0, s .pre .1)) (call .ensures .1) in
+    let count = counted (c .before .before .before .before .before .before .before .before) in
     (count, c .before .before .copy-chosen .ensures ∙ ap (λ (x : List Bytes). sets (now (a .out)) 0 (join x)) (call .ensures .1))
 
 pub copy-block-spec : {M : Type 1} → statement M

@@ -1,18 +1,20 @@
 -- `copier::copy_run` meets its contract. The loop's invariant is `Blocked`. Assumes nothing.
 use mathlib.Core.Path.{_≡_, refl, sym, ap, _∙_}
-use Prim.Native.Nat.{ℕ, _+_, _-_, _*_, _^_, _≤_, _<_}
+use Prim.Native.Nat.{_+_, _-_, _*_, _^_, _≤_, _<_}
 use native.Mathlib.Omega.{arith}
 use borrow.Author.Needs.{needs}
 use denote.Ref.{now}
 use mathlib.Core.List.{List, _++_}
 use lib.ListN.{length, take, drop, length-drop}
-use lib.Seq.{sets, length-take-le, length-sets}
-use Rattle.fields.specs.Bytes.{Bytes, join}
+use lib.Seq.{sets, length-sets}
+use Rattle.fields.specs.Bytes.{Bytes, part, join}
+use Rattle.fields.proofs.ByteLaws.{length-part}
 use Rattle.fields.proofs.StoreLaws.{tail-part, lent-back}
 use Rattle.sheet.specs.Keeping.{inTable}
 use Rattle.points.specs.Raw.{pointsOf}
 use Rattle.tally.specs.Tally.{tallyMore}
 use Rattle.release.specs.KeptPoints.{keptOf}
+use Rattle.release.proofs.kept_points.LoopLaws.{lent-record}
 use Rattle.release.proofs.copier.BlockLaws.{Blocked, blocks-begun, block-in, block-room, blocks-next, blocks-done}
 use Rattle.release.proofs.copier.copy_run.Statement.{statement}
 use Rattle.release.proofs.copier.copy_run.Tie as tie
@@ -30,35 +32,31 @@ loop-holds c =
     (blocks-begun _ _ _ _ _ _ (s .pre .3) (s .pre .1) (s .pre .0) _ (c .fresh .ensures) (s .pre .2), refl)
 
 -- in a turn the block is of some of the records that are left
-some : (c : tie.After-in-block Inv-loop μ-loop) → (0 < c .in-block .result) × (c .in-block .result ≤ c .before .before .loop .left) × (c .in-block .result ≤ 64)
-some c = omega (arith, c .in-block .ensures, c .before .loop-test .taken)
+some : (c : tie.After-least Inv-loop μ-loop) → (0 < c .least .result) × (c .least .result ≤ c .before .before .loop .left) × (c .least .result ≤ 64)
+some c = omega (arith, c .least .ensures, c .before .loop-test .taken)
 
 -- it lies in the run
-inside : (c : tie.After-in-block Inv-loop μ-loop) → c .before .before .loop .at + c .in-block .result * c .before .before .before .before .before .before .args .record-length ≤ length (now (c .before .before .before .before .before .before .args .run))
+inside : (c : tie.After-least Inv-loop μ-loop) → c .before .before .loop .at + c .least .result * c .before .before .before .before .before .before .args .record-length ≤ length (now (c .before .before .before .before .before .before .args .run))
 inside c =
     let s = c .before .before .before .before .before .before in
     let l = c .before .before .loop in
-    block-in _ _ _ _ _ _ (s .pre .3) (s .pre .1) (s .pre .0) (l .out) (l .left) (l .at) (l .to) (l .t) (l .inv .0) (c .in-block .result) (some c .1)
-
--- as it is lent
-lent : (at m : ℕ) (run : Bytes) → take (at + m - at) (drop at run) ≡ take m (drop at run)
-lent at m run = let e : at + m - at ≡ m = omega arith in rw e
+    block-in _ _ _ _ _ _ (s .pre .3) (s .pre .1) (s .pre .0) (l .out) (l .left) (l .at) (l .to) (l .t) (l .inv .0) (c .least .result) (some c .1)
 
 -- what is kept of it
-abbrev block-kept : tie.After-in-block Inv-loop μ-loop → List Bytes
+abbrev block-kept : tie.After-least Inv-loop μ-loop → List Bytes
 block-kept c =
     let a = c .before .before .before .before .before .before .args in
-    let n = c .in-block .result in
-    keptOf (now (a .table)) (a .format) n (a .record-length) (take (n * a .record-length) (drop (c .before .before .loop .at) (now (a .run))))
+    let n = c .least .result in
+    keptOf (now (a .table)) (a .format) n (a .record-length) (part (c .before .before .loop .at) (n * a .record-length) (now (a .run)))
 
 -- there is room for it
-fits : (c : tie.After-in-block Inv-loop μ-loop) → c .before .before .loop .to + length (block-kept c) * c .before .before .before .before .before .before .args .record-length ≤ length (now (c .before .before .before .before .before .before .args .out))
+fits : (c : tie.After-least Inv-loop μ-loop) → c .before .before .loop .to + length (block-kept c) * c .before .before .before .before .before .before .args .record-length ≤ length (now (c .before .before .before .before .before .before .args .out))
 fits c =
     let s = c .before .before .before .before .before .before in
     let l = c .before .before .loop in
-    block-room _ _ _ _ _ _ (s .pre .3) (s .pre .1) (s .pre .0) (l .out) (l .left) (l .at) (l .to) (l .t) (l .inv .0) (c .in-block .result) (some c .1)
+    block-room _ _ _ _ _ _ (s .pre .3) (s .pre .1) (s .pre .0) (l .out) (l .left) (l .at) (l .to) (l .t) (l .inv .0) (c .least .result) (some c .1)
 
-small : (c : tie.After-in-block Inv-loop μ-loop) → c .before .before .loop .to + length (block-kept c) * c .before .before .before .before .before .before .args .record-length < 2 ^ 64
+small : (c : tie.After-least Inv-loop μ-loop) → c .before .before .loop .to + length (block-kept c) * c .before .before .before .before .before .before .args .record-length < 2 ^ 64
 small c = omega (arith, fits c)
 
 mul-next : tie.Need-mul-next Inv-loop μ-loop
@@ -93,10 +91,10 @@ copy-block-requires c κs =
     let turn = c .before .before .before in
     let a = turn .before .before .before .before .before .before .args in
     let l = turn .before .before .loop in
-    let n = turn .in-block .result in
+    let n = turn .least .result in
     let few = some turn in
-    let long : length (take (n * a .record-length) (drop (l .at) (now (a .run)))) ≡ n * a .record-length = length-take-le (n * a .record-length) (drop (l .at) (now (a .run))) (simp length-drop (omega (arith, inside turn))) in
-    rw (lent (l .at) (n * a .record-length) (now (a .run)), tail-part (l .out) (l .to), length-drop)
+    let long : length (part (l .at) (n * a .record-length) (now (a .run))) ≡ n * a .record-length = length-part (l .at) (n * a .record-length) (now (a .run)) (inside turn) in
+    rw (lent-record (l .at) (n * a .record-length) (now (a .run)), tail-part (l .out) (l .to), length-drop)
     (few .2, omega (arith, few, l .inv .1), omega (arith, long), omega (arith, fits turn, l .inv .0 .same))
 
 -- the output after the block
@@ -109,19 +107,19 @@ copied : (d : tie.After-slice-known2 Inv-loop μ-loop) → d .before .before .be
 copied d =
     let turn = d .before .before .before .before .before .before .before in
     let a = turn .before .before .before .before .before .before .args in
-    let n = turn .in-block .result in
+    let n = turn .least .result in
     d .before .before .before .copy-block .ensures .0
-    ∙ ap (λ (x : Bytes). length (keptOf (now (a .table)) (a .format) n (a .record-length) x)) (lent (turn .before .before .loop .at) (n * a .record-length) (now (a .run)))
+    ∙ ap (λ (x : Bytes). length (keptOf (now (a .table)) (a .format) n (a .record-length) x)) (lent-record (turn .before .before .loop .at) (n * a .record-length) (now (a .run)))
 
 stands : (d : tie.After-slice-known2 Inv-loop μ-loop) → after d ≡ sets (d .before .before .before .before .before .before .before .before .before .loop .out) (d .before .before .before .before .before .before .before .before .before .loop .to) (join (block-kept (d .before .before .before .before .before .before .before)))
 stands d =
     let turn = d .before .before .before .before .before .before .before in
     let a = turn .before .before .before .before .before .before .args in
     let l = turn .before .before .loop in
-    let n = turn .in-block .result in
+    let n = turn .least .result in
     lent-back (l .out) _ (l .to) (join (block-kept turn))
     (d .before .before .before .copy-block .ensures .1
-    ∙ ap (λ (x : Bytes). sets (take (length (l .out) - l .to) (drop (l .to) (l .out))) 0 (join (keptOf (now (a .table)) (a .format) n (a .record-length) x))) (lent (l .at) (n * a .record-length) (now (a .run))))
+    ∙ ap (λ (x : Bytes). sets (take (length (l .out) - l .to) (drop (l .to) (l .out))) 0 (join (keptOf (now (a .table)) (a .format) n (a .record-length) x))) (lent-record (l .at) (n * a .record-length) (now (a .run))))
 
 long-after : (d : tie.After-slice-known2 Inv-loop μ-loop) → length (after d) ≡ length (now (d .before .before .before .before .before .before .before .before .before .before .before .before .before .args .out))
 long-after d = rw (stands d, length-sets) (d .before .before .before .before .before .before .before .before .before .loop .inv .0 .same)
@@ -157,7 +155,7 @@ loop-again c =
     let k = d .before .before .before .copy-block .result in
     let more : c .tally-more .result ≡ tallyMore (a .format) (l .t) (pointsOf k (a .record-length) (drop (l .to) (after d))) =
     c .tally-more .ensures ∙ ap (λ (x : Bytes). tallyMore (a .format) (l .t) (pointsOf k (a .record-length) x)) (tail-part (after d) (l .to)) in (
-      blocks-next _ _ _ _ _ _ (s .pre .3) (s .pre .1) (s .pre .0) (l .out) (l .left) (l .at) (l .to) (l .t) (l .inv .0) (turn .in-block .result) (some turn .1) (after d) (stands d) k (copied d) _ more,
+      blocks-next _ _ _ _ _ _ (s .pre .3) (s .pre .1) (s .pre .0) (l .out) (l .left) (l .at) (l .to) (l .t) (l .inv .0) (turn .least .result) (some turn .1) (after d) (stands d) k (copied d) _ more,
       d .before .before .before .copy-block .kept .1 .1 .1 .1 .1 .0 ∙ l .inv .1,
     )
 

@@ -8,14 +8,14 @@ use std::process::{Child, ChildStdout, Command, Stdio};
 use std::time::{Duration, Instant};
 
 /// The folder, which goes with the value.
-pub struct Desk {
+pub struct ReleaseFolder {
     folder: PathBuf,
     output: File,
     /// What the output holds before each release.
     before: Vec<u8>,
 }
 
-impl Desk {
+impl ReleaseFolder {
     pub fn new(file: &[u8], sheet: &[u8], before: Vec<u8>) -> Self {
         let folder = std::env::temp_dir().join(format!("power-cut-{}", std::process::id()));
         fs::create_dir_all(&folder).expect("the folder is made");
@@ -62,7 +62,7 @@ impl Desk {
     }
 }
 
-impl Drop for Desk {
+impl Drop for ReleaseFolder {
     fn drop(&mut self) {
         let _ = fs::remove_dir_all(&self.folder);
     }
@@ -75,12 +75,13 @@ struct Release {
 }
 
 impl Release {
-    fn ready(desk: &Desk) -> Self {
-        desk.output
-            .write_all_at(&desk.before, 0)
+    fn ready(folder: &ReleaseFolder) -> Self {
+        folder
+            .output
+            .write_all_at(&folder.before, 0)
             .expect("the output is filled");
         let mut process = Command::new(env!("CARGO_BIN_EXE_release_into"))
-            .args(["file", "sheet", "output"].map(|name| desk.folder.join(name)))
+            .args(["file", "sheet", "output"].map(|name| folder.folder.join(name)))
             .stdin(Stdio::piped())
             .stdout(Stdio::piped())
             .spawn()
