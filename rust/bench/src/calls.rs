@@ -94,11 +94,12 @@ fn decode_plain(points: &mut [u8]) {
     }
 }
 
-/// Encodes the fields of the first point into every record.
+/// Encodes the fields of the first point into every record. As on the other side, the fields stand in memory; here the
+/// call itself hands them over by value.
 fn encode(build: &Library, room: &mut [u8]) {
     let point = build.decode(FORMAT, &room[..LENGTH]);
     for record in room.chunks_exact_mut(LENGTH) {
-        black_box(build.encode(FORMAT, black_box(point), record));
+        black_box(build.encode(FORMAT, *black_box(&point), record));
     }
 }
 
