@@ -1,16 +1,24 @@
 //! Refusals.
 
+mod kind;
+
+pub use kind::ErrorKind;
+
 use crate::narrow;
 use std::fmt;
 
 /// A refusal: its number, and with 30 the length that the output needs.
 ///
+/// `{:?}` shows the same words as `{}`, since a `main` that returns an error prints it so.
+///
 /// ```
 /// let refused = korbishaf::check_file(b"LASF").unwrap_err();
 /// assert_eq!(refused.number(), 1);
+/// assert_eq!(refused.kind(), korbishaf::ErrorKind::File);
 /// assert_eq!(refused.to_string(), "refused 1: fewer than 227 bytes");
+/// assert_eq!(format!("{refused:?}"), "refused 1: fewer than 227 bytes");
 /// ```
-#[derive(Clone, Copy, Debug, PartialEq, Eq, Hash)]
+#[derive(Clone, Copy, PartialEq, Eq, Hash)]
 pub struct Error {
     number: u64,
     needed: Option<usize>,
@@ -18,16 +26,25 @@ pub struct Error {
 
 impl Error {
     /// The specification's number for it (docs/SPECIFICATION.md).
+    #[must_use]
     pub fn number(&self) -> u64 {
         self.number
     }
 
+    /// What it is about.
+    #[must_use]
+    pub fn kind(&self) -> ErrorKind {
+        ErrorKind::of(self.number)
+    }
+
     /// The length that the output needs, where the number is 30; otherwise none.
+    #[must_use]
     pub fn needed(&self) -> Option<usize> {
         self.needed
     }
 
     /// What its number says, in words.
+    #[must_use]
     pub fn words(&self) -> &'static str {
         words(self.number).unwrap_or("a number without words")
     }
@@ -40,6 +57,12 @@ impl fmt::Display for Error {
             Some(needed) => write!(f, " ({needed} bytes)"),
             None => Ok(()),
         }
+    }
+}
+
+impl fmt::Debug for Error {
+    fn fmt(&self, f: &mut fmt::Formatter<'_>) -> fmt::Result {
+        fmt::Display::fmt(self, f)
     }
 }
 
@@ -162,6 +185,34 @@ mod tests {
             passes(99).unwrap_err().to_string(),
             "refused 99: a number without words"
         );
+    }
+
+    #[test]
+    fn debug_shows_the_words_of_display() {
+        for number in NUMBERS {
+            let refused = passes_or_needs(number, 255).unwrap_err();
+            assert_eq!(format!("{refused:?}"), refused.to_string());
+        }
+    }
+
+    #[test]
+    fn kinds_follow_the_groups_of_numbers() {
+        use ErrorKind::*;
+        let groups = [
+            (1..=10, File),
+            (11..=13, Point),
+            (18..=18, Record),
+            (20..=24, Sheet),
+            (30..=30, OutputTooShort),
+            (40..=46, GeoKey),
+            (50..=51, Program),
+        ];
+        for number in (1..1000).chain([u64::MAX]) {
+            let wanted = groups.iter().find(|(group, _)| group.contains(&number));
+            let wanted = wanted.map_or(Unknown, |(_, kind)| *kind);
+            assert_eq!(passes(number).unwrap_err().kind(), wanted, "{number}");
+            assert_eq!(NUMBERS.contains(&number), wanted != Unknown, "{number}");
+        }
     }
 
     #[test]

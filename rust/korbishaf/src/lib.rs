@@ -56,7 +56,7 @@ mod release;
 mod sheet;
 pub mod sys;
 
-pub use error::Error;
+pub use error::{Error, ErrorKind};
 pub use geokeys::{GeoKeyValue, geokey};
 pub use header::{Guid, Header, check_file, read_header};
 pub use points::{PlacedPoint, Point, Points, coordinate, decode, encode, point_at, points};
