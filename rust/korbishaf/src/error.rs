@@ -68,8 +68,16 @@ impl fmt::Debug for Error {
 
 impl std::error::Error for Error {}
 
+#[cfg(test)]
+thread_local! {
+    /// How many answers of the library this thread has looked at.
+    pub(crate) static ANSWERS: std::cell::Cell<usize> = const { std::cell::Cell::new(0) };
+}
+
 /// Turns the number of an answer into a result.
 pub(crate) fn passes(number: u64) -> Result<(), Error> {
+    #[cfg(test)]
+    ANSWERS.set(ANSWERS.get() + 1);
     match number {
         0 => Ok(()),
         _ => Err(Error {

@@ -74,6 +74,12 @@ fn part(file: &[u8], place: u64, length: u64) -> &[u8] {
     &file[narrow(place)..][..narrow(length)]
 }
 
+/// A text field's meaning: its bytes before the first zero byte, or all of them.
+fn cut(field: &[u8]) -> &[u8] {
+    let length = field.iter().take_while(|&&byte| byte != 0).count();
+    &field[..length]
+}
+
 /// A number that the library answered, in the type of the field that it was read from.
 fn narrow<T: TryFrom<u64>>(number: u64) -> T {
     T::try_from(number)
