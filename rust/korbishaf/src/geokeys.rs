@@ -14,8 +14,11 @@ pub enum GeoKeyValue<'a> {
     Text(&'a [u8]),
 }
 
-/// Looks a GeoKey up, in a file's first key directory (the record `LASF_Projection`, 34735). Refused with
-/// 1 to 10, then with 40 to 46.
+/// Looks a GeoKey up, in a file's first key directory (the record `LASF_Projection`, 34735).
+///
+/// # Errors
+///
+/// 1 to 10 where the file does not pass, then 40 to 46 where the key or its value is not found.
 pub fn geokey(file: &[u8], key: u16) -> Result<GeoKeyValue<'_>, Error> {
     // SAFETY: pointer and length are those of one slice.
     let found = unsafe { sys::las_geokey_find(file.as_ptr(), file.len() as u64, key) };

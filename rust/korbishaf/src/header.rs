@@ -5,7 +5,11 @@ use crate::points::{Point, coordinate};
 use crate::{narrow, part, sys};
 use std::fmt;
 
-/// Checks a file. It passes, or is refused with 1 to 10.
+/// Checks a file.
+///
+/// # Errors
+///
+/// 1 to 10 where the file does not pass.
 ///
 /// ```
 /// assert_eq!(korbishaf::check_file(&[0; 226]).unwrap_err().number(), 1);
@@ -90,13 +94,18 @@ pub struct Header<'a> {
 
 impl Header<'_> {
     /// The coordinates of a point under this header's scales and offsets.
+    #[must_use]
     pub fn coordinates(&self, point: &Point) -> [f64; 3] {
         let stored = [point.x, point.y, point.z];
         std::array::from_fn(|axis| coordinate(stored[axis], self.scale[axis], self.offset[axis]))
     }
 }
 
-/// Reads the header of a file that passes. Refused with 1 to 10.
+/// Reads the header of a file that passes.
+///
+/// # Errors
+///
+/// 1 to 10 where the file does not pass.
 pub fn read_header(file: &[u8]) -> Result<Header<'_>, Error> {
     // SAFETY: pointer and length are those of one slice.
     let read = unsafe { sys::las_read_header(file.as_ptr(), file.len() as u64) };

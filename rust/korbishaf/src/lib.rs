@@ -45,7 +45,7 @@
 //! # Ok::<(), korbishaf::Error>(())
 //! ```
 
-#![deny(missing_docs)]
+#![warn(missing_docs)]
 
 mod error;
 mod geokeys;
@@ -65,6 +65,7 @@ pub use release::{Released, release, release_to_vec};
 pub use sheet::{check_sheet, class_kept, record_kept};
 
 /// The number of the last change request that is in the library; 0 for the base.
+#[must_use]
 pub fn level() -> u64 {
     sys::las_level()
 }

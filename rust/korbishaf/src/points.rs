@@ -45,6 +45,7 @@ pub struct Point {
 
 impl Point {
     /// The GPS time, which formats 1 and 3 have.
+    #[must_use]
     pub fn gps_time(&self) -> f64 {
         f64::from_bits(self.gps_time_bits)
     }
@@ -105,8 +106,11 @@ pub struct PlacedPoint {
     pub point: Point,
 }
 
-/// The point of a file with that index, from 0. Refused with 1 to 10, then with 11 where the index is not below
-/// the number of points.
+/// The point of a file with that index, from 0.
+///
+/// # Errors
+///
+/// 1 to 10 where the file does not pass, then 11 where the index is not below the number of points.
 pub fn point_at(file: &[u8], index: u64) -> Result<PlacedPoint, Error> {
     // SAFETY: pointer and length are those of one slice.
     let found = unsafe { sys::las_point_at(file.as_ptr(), file.len() as u64, index) };
@@ -117,9 +121,13 @@ pub fn point_at(file: &[u8], index: u64) -> Result<PlacedPoint, Error> {
     })
 }
 
-/// The points of a file that passes, in order: what [`point_at`] answers for each index. Refused with 1 to 10.
+/// The points of a file that passes, in order: what [`point_at`] answers for each index.
 ///
 /// The file is checked once, and then each record is decoded.
+///
+/// # Errors
+///
+/// 1 to 10 where the file does not pass.
 pub fn points(file: &[u8]) -> Result<Points<'_>, Error> {
     let header = read_header(file)?;
     Ok(Points {
@@ -133,6 +141,7 @@ pub fn points(file: &[u8]) -> Result<Points<'_>, Error> {
 
 /// The iterator that [`points`] gives.
 #[derive(Clone, Debug)]
+#[must_use = "an iterator does nothing until it is asked"]
 pub struct Points<'a> {
     file: &'a [u8],
     format: u8,
@@ -166,9 +175,12 @@ impl ExactSizeIterator for Points<'_> {}
 
 impl FusedIterator for Points<'_> {}
 
-/// Reads the fields of a point record. Bytes beyond the format's size are extra, and not looked at. Refused with
-/// 12 where there are not `record_length` bytes, that length is below the format's size (20, 28, 26 and 34 for
-/// 0, 1, 2 and 3), or the format is above 3.
+/// Reads the fields of a point record. Bytes beyond the format's size are extra, and not looked at.
+///
+/// # Errors
+///
+/// 12 where there are not `record_length` bytes, that length is below the format's size (20, 28, 26 and 34 for 0, 1, 2
+/// and 3), or the format is above 3.
 ///
 /// ```
 /// let record = [0xFF, 0xFF, 0xFF, 0xFF, 100, 0, 0, 0, 0, 0, 0, 0, 0x2C, 1, 0x11, 2, 0xFD, 0, 7, 0];
@@ -187,8 +199,12 @@ pub fn decode(format: u8, record_length: u16, bytes: &[u8]) -> Result<Point, Err
 }
 
 /// Writes a point's fields to the room. The room's bytes beyond the format's size are extra, and stay; fields
-/// that the format lacks are not looked at. Refused with 12 as [`decode`] is, by the room's length, then with 13
-/// where the return number or the number of returns is above 7; the room is then unchanged.
+/// that the format lacks are not looked at.
+///
+/// # Errors
+///
+/// 12 as for [`decode`], by the room's length, then 13 where the return number or the number of returns is above 7. The
+/// room is then unchanged.
 ///
 /// ```
 /// let point = korbishaf::Point { x: -1, return_number: 1, returns: 2, ..Default::default() };
@@ -211,6 +227,7 @@ pub fn encode(format: u8, record_length: u16, point: &Point, room: &mut [u8]) ->
 /// ```
 /// assert_eq!(korbishaf::coordinate(-1, 0.5, 10.0), 9.5);
 /// ```
+#[must_use]
 pub fn coordinate(stored: i32, scale: f64, offset: f64) -> f64 {
     f64::from_bits(sys::las_coordinate(
         stored,
