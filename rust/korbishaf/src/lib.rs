@@ -1,9 +1,14 @@
 //! Korbishaf for Rust: readers of LAS 1.2 files (point formats 0 to 3), and releases of what a keep sheet keeps
 //! of them.
 //!
-//! Every function here is a thin, safe wrapper of one in the static library `libcapi.a`, which is proved to do
-//! what its definitions say; [`sys`] has the library's functions themselves. Any bytes may be passed. What
-//! can't be answered is refused with an [`Error`], which has a number and says why in words.
+//! The functions here are thin, safe wrappers of those in the static library `libcapi.a`, which is proved to do what
+//! its definitions say. Any bytes may be passed. What can't be answered is refused with an [`Error`], which has a
+//! number and a kind and says why in words.
+//!
+//! A keep sheet is a [`Sheet`], which has passed the library's check: made of lines, of bytes or of a text. [`bytes`]
+//! has the functions that take a sheet over plain bytes instead, and [`sys`] the library's functions themselves. What
+//! this crate does by itself, and is tested but not proved: [`records`] reads each record out of a file that the
+//! library has checked, and [`Sheet`] goes from lines and text to bytes and back.
 //!
 //! The library is linked from the folder that the environment variable `KORBISHAF_LIB_DIR` names, else from
 //! the repository's `target/staticlib`, where `rt staticlib capi` writes it.
@@ -31,8 +36,7 @@
 //!     file.extend(record);
 //! }
 //!
-//! // One line, which keeps the classes from 2 to 5.
-//! let sheet = [0x4B, 0x53, 1, 2, 5];
+//! let sheet = korbishaf::Sheet::from_text("class 2-5 # ground and vegetation")?;
 //! let sample = korbishaf::release_to_vec(&file, &sheet)?;
 //! assert_eq!(sample.len(), 247);
 //!
@@ -42,11 +46,12 @@
 //! let kept: Vec<_> = korbishaf::points(&sample)?.map(|found| found.point).collect();
 //! assert_eq!(kept, [korbishaf::Point { x: -3, class: 2, ..Default::default() }]);
 //! assert_eq!(header.coordinates(&kept[0]), [-1.5, 0.0, 0.0]);
-//! # Ok::<(), korbishaf::Error>(())
+//! # Ok::<(), Box<dyn std::error::Error>>(())
 //! ```
 
 #![warn(missing_docs)]
 
+pub mod bytes;
 mod error;
 mod geokeys;
 mod header;
@@ -62,7 +67,9 @@ pub use header::{Guid, Header, check_file, read_header};
 pub use points::{PlacedPoint, Point, Points, coordinate, decode, encode, point_at, points};
 pub use records::{Record, Records, Step, records, step};
 pub use release::{Released, release, release_to_vec};
-pub use sheet::{check_sheet, class_kept, record_kept};
+pub use sheet::{
+    Line, Lines, LongUserId, Sheet, SheetError, TextError, UserId, class_kept, record_kept,
+};
 
 /// The number of the last change request that is in the library; 0 for the base.
 #[must_use]

@@ -1,7 +1,8 @@
 //! The release.
 
-use crate::error::{Error, passes_or_needs};
-use crate::{narrow, sys};
+use crate::bytes;
+use crate::error::Error;
+use crate::sheet::Sheet;
 
 /// What was released.
 #[derive(Clone, Copy, Debug, PartialEq, Eq, Hash)]
@@ -16,39 +17,31 @@ pub struct Released {
 
 /// Writes what a sheet keeps of a file to the output, as a file of its own with zeros behind it.
 ///
-/// An output as long as the file is never too short. Refused with 1 to 10 for the file, then 20 to 24 for the
-/// sheet, then 30 where the output is shorter than the released file, with the needed length in
-/// [`Error::needed`]; the output is then unchanged.
-pub fn release(file: &[u8], sheet: &[u8], out: &mut [u8]) -> Result<Released, Error> {
-    // SAFETY: each pointer and the length after it are those of one slice; the output is borrowed for writing, so
-    // that it overlaps neither of the others.
-    let released = unsafe {
-        sys::las_release(
-            file.as_ptr(),
-            file.len() as u64,
-            sheet.as_ptr(),
-            sheet.len() as u64,
-            out.as_mut_ptr(),
-            out.len() as u64,
-        )
-    };
-    passes_or_needs(released.number, released.length)?;
-    Ok(Released {
-        length: narrow(released.length),
-        points: released.points,
-        records: released.records,
-    })
+/// An output as long as the file is never too short.
+///
+/// # Errors
+///
+/// 1 to 10 where the file does not pass, then 30 where the output is shorter than the released file, with the needed
+/// length in [`Error::needed`]. The output is then unchanged.
+pub fn release(file: &[u8], sheet: &Sheet, out: &mut [u8]) -> Result<Released, Error> {
+    bytes::release(file, sheet.as_bytes(), out)
 }
 
-/// The released file by itself: what a sheet keeps of a file. Refused with 1 to 10, then with 20 to 24.
+/// The released file by itself: what a sheet keeps of a file.
 ///
 /// It asks for the needed length first, with an empty output.
-pub fn release_to_vec(file: &[u8], sheet: &[u8]) -> Result<Vec<u8>, Error> {
-    let mut out = Vec::new();
-    if let Err(refused) = release(file, sheet, &mut out) {
-        let needed = refused.needed().ok_or(refused)?;
-        out.resize(needed, 0);
-        release(file, sheet, &mut out)?;
-    }
-    Ok(out)
+///
+/// File and sheet cannot be swapped:
+///
+/// ```compile_fail,E0308
+/// # fn swapped(file: Vec<u8>, sheet: korbishaf::Sheet) {
+/// let sample = korbishaf::release_to_vec(&sheet, &file);
+/// # }
+/// ```
+///
+/// # Errors
+///
+/// 1 to 10 where the file does not pass.
+pub fn release_to_vec(file: &[u8], sheet: &Sheet) -> Result<Vec<u8>, Error> {
+    bytes::release_to_vec(file, sheet.as_bytes())
 }

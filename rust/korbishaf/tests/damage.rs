@@ -1,5 +1,6 @@
 //! The sample cards damaged in every byte, cut at every length: the wrappers agree with each other, and none panics.
 
+use korbishaf::{Record, Sheet, bytes};
 use std::fs;
 use std::path::Path;
 
@@ -19,24 +20,69 @@ fn number<T>(answer: &Result<T, korbishaf::Error>) -> u64 {
     answer.as_ref().err().map_or(0, |refused| refused.number())
 }
 
+/// The records of a file that passes, by the library's own steps.
+fn steps(file: &[u8]) -> Vec<Record<'_>> {
+    let header = korbishaf::read_header(file).unwrap();
+    let (mut index, mut position) = (0, u64::from(header.header_size));
+    let mut records = Vec::new();
+    while let Ok(step) = korbishaf::step(file, index, position) {
+        (index, position) = (step.next_index, step.next_position);
+        records.push(step.record);
+    }
+    records
+}
+
+/// What holds of any sheet: it is a [`Sheet`] exactly where it passes, and then gives the same answers.
+fn try_sheet(file: &[u8], sheet: &[u8]) {
+    let made = Sheet::from_bytes(sheet);
+    assert_eq!(
+        made.as_ref().err(),
+        bytes::check_sheet(sheet).as_ref().err()
+    );
+    let Ok(made) = made else {
+        return;
+    };
+    assert_eq!(made.as_bytes(), sheet);
+    for made in [&made, &Sheet::read(made.to_text()).unwrap()] {
+        for class in 0..=255 {
+            let kept = bytes::class_kept(sheet, class).unwrap();
+            assert_eq!(korbishaf::class_kept(made, class), kept);
+        }
+        let kept = bytes::record_kept(sheet, b"LASF_Projection", 34735).unwrap();
+        assert_eq!(
+            korbishaf::record_kept(made, b"LASF_Projection", 34735),
+            kept
+        );
+        let released = korbishaf::release_to_vec(file, made);
+        assert!(released == bytes::release_to_vec(file, sheet));
+        let (mut out, mut plain_out) = (vec![0xEE; file.len()], vec![0xEE; file.len()]);
+        assert_eq!(
+            korbishaf::release(file, made, &mut out),
+            bytes::release(file, sheet, &mut plain_out)
+        );
+        assert!(out == plain_out);
+    }
+}
+
 /// What holds of any file and any sheet. Returns the numbers of the two checks.
 fn try_all(file: &[u8], sheet: &[u8]) -> (u64, u64) {
     let of_file = number(&korbishaf::check_file(file));
-    let of_sheet = number(&korbishaf::check_sheet(sheet));
-    assert_eq!(number(&korbishaf::class_kept(sheet, 2)), of_sheet);
+    let of_sheet = number(&bytes::check_sheet(sheet));
+    assert_eq!(number(&bytes::class_kept(sheet, 2)), of_sheet);
     assert_eq!(
-        number(&korbishaf::record_kept(sheet, b"LASF_Projection", 34735)),
+        number(&bytes::record_kept(sheet, b"LASF_Projection", 34735)),
         of_sheet
     );
+    try_sheet(file, sheet);
 
-    let released = korbishaf::release_to_vec(file, sheet);
+    let released = bytes::release_to_vec(file, sheet);
     assert_eq!(
         number(&released),
         if of_file != 0 { of_file } else { of_sheet }
     );
     if let Ok(out) = &released {
         assert!((227..=file.len()).contains(&out.len()));
-        assert!(korbishaf::release_to_vec(out, sheet).as_ref() == Ok(out));
+        assert!(bytes::release_to_vec(out, sheet).as_ref() == Ok(out));
     }
 
     let header = korbishaf::read_header(file);
@@ -53,11 +99,10 @@ fn try_all(file: &[u8], sheet: &[u8]) -> (u64, u64) {
     let records = korbishaf::records(file).unwrap();
     assert_eq!(records.len(), header.record_count as usize);
     assert_eq!(records.clone().count(), records.len());
+    assert!(records.clone().eq(steps(file)));
     if of_sheet == 0 {
         let kept: Vec<_> = records
-            .filter(|record| {
-                korbishaf::record_kept(sheet, record.user_id, record.record_id).unwrap()
-            })
+            .filter(|record| bytes::record_kept(sheet, record.user_id, record.record_id).unwrap())
             .collect();
         let out = released.as_ref().unwrap();
         assert!(korbishaf::records(out).unwrap().eq(kept));
@@ -73,7 +118,7 @@ fn try_all(file: &[u8], sheet: &[u8]) -> (u64, u64) {
         let out = released.as_ref().unwrap();
         let length = usize::from(header.record_length);
         let kept: Vec<_> = points
-            .filter(|found| korbishaf::class_kept(sheet, found.point.class).unwrap())
+            .filter(|found| bytes::class_kept(sheet, found.point.class).unwrap())
             .map(|found| &file[found.place..][..length])
             .collect();
         let released_points = korbishaf::points(out).unwrap();

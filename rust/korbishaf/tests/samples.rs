@@ -1,6 +1,6 @@
 //! The samples of the specification and the sample cards, through the wrappers.
 
-use korbishaf::{GeoKeyValue, Guid, PlacedPoint, Point, Record, Released};
+use korbishaf::{GeoKeyValue, Guid, PlacedPoint, Point, Record, Released, Sheet, bytes};
 use std::fs;
 use std::path::Path;
 
@@ -96,6 +96,11 @@ fn p9() -> Vec<u8> {
     file
 }
 
+/// The sheet of bytes that pass.
+fn sheet(bytes: &[u8]) -> Sheet {
+    Sheet::from_bytes(bytes).unwrap()
+}
+
 fn number<T: std::fmt::Debug>(answer: Result<T, korbishaf::Error>) -> u64 {
     answer.unwrap_err().number()
 }
@@ -114,7 +119,8 @@ fn files_p1_p2() {
         assert_eq!(number(korbishaf::points(file)), 1);
         assert_eq!(number(korbishaf::point_at(file, 0)), 1);
         assert_eq!(number(korbishaf::geokey(file, 1024)), 1);
-        assert_eq!(number(korbishaf::release_to_vec(file, &[])), 1);
+        assert_eq!(number(korbishaf::release_to_vec(file, &Sheet::new())), 1);
+        assert_eq!(number(bytes::release_to_vec(file, &[])), 1);
     }
     assert_eq!(number(korbishaf::check_file(&[0; 227])), 2);
     assert_eq!(korbishaf::check_file(&p9()), Ok(()));
@@ -141,36 +147,44 @@ fn damaged_files() {
 #[test]
 fn sheets_p3_to_p6() {
     for class in 0..=255 {
-        assert_eq!(korbishaf::class_kept(&CLASS_2, class), Ok(class == 2));
-        assert_eq!(korbishaf::class_kept(&[], class), Ok(false));
+        assert_eq!(bytes::class_kept(&CLASS_2, class), Ok(class == 2));
+        assert_eq!(bytes::class_kept(&[], class), Ok(false));
+        assert_eq!(korbishaf::class_kept(&sheet(&CLASS_2), class), class == 2);
+        assert!(!korbishaf::class_kept(&Sheet::new(), class));
     }
-    for (sheet, wanted) in [
+    for (refused, wanted) in [
         (&[0x4B, 0x53, 1, 3, 2][..], 23),
         (&[0x4B, 0x53], 22),
         (&[0x4B, 0x54, 1], 20),
         (&[0x4B, 0x53, 3], 21),
         (&CLASS_2.repeat(65), 24),
     ] {
-        assert_eq!(number(korbishaf::check_sheet(sheet)), wanted);
-        assert_eq!(number(korbishaf::class_kept(sheet, 2)), wanted);
-        assert_eq!(number(korbishaf::record_kept(sheet, b"", 2)), wanted);
-        assert_eq!(number(korbishaf::release_to_vec(&p9(), sheet)), wanted);
+        assert_eq!(number(Sheet::from_bytes(refused)), wanted);
+        assert_eq!(number(bytes::check_sheet(refused)), wanted);
+        assert_eq!(number(bytes::class_kept(refused, 2)), wanted);
+        assert_eq!(number(bytes::record_kept(refused, b"", 2)), wanted);
+        assert_eq!(number(bytes::release_to_vec(&p9(), refused)), wanted);
+        assert_eq!(number(bytes::release(&p9(), refused, &mut [])), wanted);
+        assert_eq!(number(bytes::release(&[], refused, &mut [])), 1);
     }
-    assert_eq!(korbishaf::check_sheet(&CLASS_2.repeat(64)), Ok(()));
+    assert_eq!(bytes::check_sheet(&CLASS_2.repeat(64)), Ok(()));
 }
 
 #[test]
 fn kept_records() {
-    let sheet = *b"KS\x02someone\0and more\x07\x00";
-    assert_eq!(korbishaf::record_kept(&sheet, b"someone", 7), Ok(true));
-    assert_eq!(
-        korbishaf::record_kept(&sheet, b"someone\0else", 7),
-        Ok(true)
-    );
-    assert_eq!(korbishaf::record_kept(&sheet, b"someone", 8), Ok(false));
-    assert_eq!(korbishaf::record_kept(&sheet, b"someon", 7), Ok(false));
-    assert_eq!(korbishaf::record_kept(&sheet, b"", 7), Ok(false));
-    assert_eq!(korbishaf::record_kept(&[], b"someone", 7), Ok(false));
+    let someone = *b"KS\x02someone\0and more\x07\x00";
+    for (lines, user_id, record_id, kept) in [
+        (&someone[..], &b"someone"[..], 7, true),
+        (&someone, b"someone\0else", 7, true),
+        (&someone, b"someone", 8, false),
+        (&someone, b"someon", 7, false),
+        (&someone, b"", 7, false),
+        (&[], b"someone", 7, false),
+    ] {
+        assert_eq!(bytes::record_kept(lines, user_id, record_id), Ok(kept));
+        let lines = sheet(lines);
+        assert_eq!(korbishaf::record_kept(&lines, user_id, record_id), kept);
+    }
 }
 
 #[test]
@@ -450,7 +464,7 @@ fn geokeys() {
 
 #[test]
 fn a_release_p9() {
-    let file = p9();
+    let (file, class_2) = (p9(), sheet(&CLASS_2));
     let mut out = [0xEE; 260];
     let released = Released {
         length: 255,
@@ -458,7 +472,7 @@ fn a_release_p9() {
         records: 0,
     };
     assert_eq!(
-        korbishaf::release(&file, &CLASS_2, &mut out[..255]),
+        korbishaf::release(&file, &class_2, &mut out[..255]),
         Ok(released)
     );
     assert_eq!(out[227..255], file[319..347]);
@@ -471,26 +485,26 @@ fn a_release_p9() {
     assert_eq!(header.points_by_return, [1, 0, 0, 0, 0]);
     assert_eq!((header.max, header.min), ([9.5, 5.0, 0.0], [9.5, 5.0, 0.0]));
     assert_eq!(
-        korbishaf::release_to_vec(&file, &CLASS_2).unwrap(),
+        korbishaf::release_to_vec(&file, &class_2).unwrap(),
         out[..255]
     );
 
     let mut long = [0xEE; 260];
-    assert_eq!(korbishaf::release(&file, &CLASS_2, &mut long), Ok(released));
+    assert_eq!(korbishaf::release(&file, &class_2, &mut long), Ok(released));
     assert_eq!(long[..255], out[..255]);
     assert_eq!(long[255..], [0; 5]);
 
     let mut short = [0xEE; 254];
-    let refused = korbishaf::release(&file, &CLASS_2, &mut short).unwrap_err();
+    let refused = korbishaf::release(&file, &class_2, &mut short).unwrap_err();
     assert_eq!((refused.number(), refused.needed()), (30, Some(255)));
     assert_eq!(short, [0xEE; 254]);
-    let refused = korbishaf::release(&file, &CLASS_2, &mut []).unwrap_err();
+    let refused = korbishaf::release(&file, &class_2, &mut []).unwrap_err();
     assert_eq!((refused.number(), refused.needed()), (30, Some(255)));
 }
 
 #[test]
 fn a_release_p10() {
-    let out = korbishaf::release_to_vec(&p9(), &[]).unwrap();
+    let out = korbishaf::release_to_vec(&p9(), &Sheet::new()).unwrap();
     assert_eq!(out.len(), 227);
     assert_eq!(out[179..], [0; 48]);
 }
@@ -500,7 +514,8 @@ fn cards() {
     let cards = Path::new(env!("CARGO_MANIFEST_DIR")).join("../../cards");
     for card in ["survey", "yard"] {
         let read = |name| fs::read(cards.join(card).join(name)).unwrap();
-        let (file, sheet, expected) = (read("in.las"), read("sheet.bin"), read("expected.las"));
+        let (file, expected) = (read("in.las"), read("expected.las"));
+        let sheet = Sheet::read(read("sheet.bin")).unwrap();
         let mut out = vec![0xEE; file.len()];
         let released = korbishaf::release(&file, &sheet, &mut out).unwrap();
         let line = format!(
@@ -513,9 +528,10 @@ fn cards() {
             out[released.length..].iter().all(|&byte| byte == 0),
             "{card}"
         );
-        assert!(
-            korbishaf::release_to_vec(&file, &sheet).unwrap() == expected,
-            "{card}"
-        );
+        let again = Sheet::read(sheet.to_text()).unwrap();
+        for sheet in [sheet, again] {
+            let released = korbishaf::release_to_vec(&file, &sheet).unwrap();
+            assert!(released == expected, "{card}");
+        }
     }
 }

@@ -1,0 +1,109 @@
+//! The interface's own functions that take a keep sheet, over plain bytes and with nothing added.
+//!
+//! A file and a sheet are both plain bytes here, and nothing but their order tells them apart; the functions of the
+//! same names outside this module take a [`Sheet`](crate::Sheet). These answer for any bytes, sheets that do not pass
+//! too, and in the interface's order of refusals: 1 to 10 for the file, 20 to 24 for the sheet, then 30.
+
+use crate::error::{Error, passes, passes_or_needs};
+use crate::release::Released;
+use crate::{narrow, sys};
+
+/// Checks a keep sheet. An empty sheet is good and keeps nothing.
+///
+/// # Errors
+///
+/// 20 to 24 where the sheet does not pass.
+///
+/// ```
+/// use korbishaf::bytes::check_sheet;
+///
+/// assert!(check_sheet(&[]).is_ok());
+/// assert!(check_sheet(&[0x4B, 0x53, 1, 2, 2]).is_ok());
+/// assert_eq!(check_sheet(&[0x4B, 0x53, 1, 3, 2]).unwrap_err().number(), 23);
+/// ```
+pub fn check_sheet(sheet: &[u8]) -> Result<(), Error> {
+    // SAFETY: pointer and length are those of one slice.
+    passes(unsafe { sys::las_check_sheet(sheet.as_ptr(), sheet.len() as u64) })
+}
+
+/// Whether a sheet keeps the points of a class.
+///
+/// # Errors
+///
+/// 20 to 24 where the sheet does not pass.
+pub fn class_kept(sheet: &[u8], class: u8) -> Result<bool, Error> {
+    // SAFETY: pointer and length are those of one slice.
+    kept(unsafe { sys::las_class_kept(sheet.as_ptr(), sheet.len() as u64, class) })
+}
+
+/// Whether a sheet keeps the variable length records of a user ID and a record ID. The user ID has any number of
+/// bytes; those from the first zero byte on do not count.
+///
+/// # Errors
+///
+/// 20 to 24 where the sheet does not pass.
+pub fn record_kept(sheet: &[u8], user_id: &[u8], record_id: u16) -> Result<bool, Error> {
+    // SAFETY: each pointer and the length after it are those of one slice.
+    kept(unsafe {
+        sys::las_record_kept(
+            sheet.as_ptr(),
+            sheet.len() as u64,
+            user_id.as_ptr(),
+            user_id.len() as u64,
+            record_id,
+        )
+    })
+}
+
+/// Writes what a sheet keeps of a file to the output, as a file of its own with zeros behind it.
+///
+/// # Errors
+///
+/// 1 to 10 where the file does not pass, then 20 to 24 where the sheet does not, then 30 where the output is shorter
+/// than the released file, with the needed length in [`Error::needed`]. The output is then unchanged.
+///
+/// ```
+/// let (file, sheet) = ([0; 227], [0x4B, 0x54, 1]);
+/// let refused = korbishaf::bytes::release(&file, &sheet, &mut []).unwrap_err();
+/// assert_eq!(refused.number(), 2); // the file is checked before the sheet
+/// ```
+pub fn release(file: &[u8], sheet: &[u8], out: &mut [u8]) -> Result<Released, Error> {
+    // SAFETY: each pointer and the length after it are those of one slice; the output is borrowed for writing, so
+    // that it overlaps neither of the others.
+    let released = unsafe {
+        sys::las_release(
+            file.as_ptr(),
+            file.len() as u64,
+            sheet.as_ptr(),
+            sheet.len() as u64,
+            out.as_mut_ptr(),
+            out.len() as u64,
+        )
+    };
+    passes_or_needs(released.number, released.length)?;
+    Ok(Released {
+        length: narrow(released.length),
+        points: released.points,
+        records: released.records,
+    })
+}
+
+/// The released file by itself, by two calls of [`release`]: an empty output asks for the needed length first.
+///
+/// # Errors
+///
+/// 1 to 10 where the file does not pass, then 20 to 24 where the sheet does not.
+pub fn release_to_vec(file: &[u8], sheet: &[u8]) -> Result<Vec<u8>, Error> {
+    let mut out = Vec::new();
+    if let Err(refused) = release(file, sheet, &mut out) {
+        let needed = refused.needed().ok_or(refused)?;
+        out.resize(needed, 0);
+        release(file, sheet, &mut out)?;
+    }
+    Ok(out)
+}
+
+fn kept(answer: sys::las_kept) -> Result<bool, Error> {
+    passes(answer.number)?;
+    Ok(answer.kept != 0)
+}

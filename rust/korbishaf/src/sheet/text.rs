@@ -1,0 +1,157 @@
+//! The text form of a sheet.
+
+mod class_names;
+mod cursor;
+mod error;
+mod near;
+mod quoted;
+
+pub use error::TextError;
+
+use super::user_id::{UserId, stands_bare};
+use super::{Line, MOST_LINES};
+use cursor::{Cursor, Word};
+use error::found;
+use near::did_you_mean;
+
+/// What a class may be.
+const A_CLASS: &str = "expected a class from 0 to 255, 'lowest-highest' or a class name";
+
+/// What is often meant where a user ID is followed by too much.
+const QUOTES: &str = "a user ID with a blank stands in double quotes";
+
+/// The lines of a text, or its first mistake.
+pub(super) fn read(text: &[u8]) -> Result<Vec<Line>, TextError> {
+    let mut lines = Vec::new();
+    for (number, bytes) in (1..).zip(text.split(|&byte| byte == b'\n')) {
+        let mut cursor = Cursor::new(number, bytes.strip_suffix(b"\r").unwrap_or(bytes));
+        let keyword = cursor.word();
+        if keyword.bytes.is_empty() {
+            continue;
+        }
+        if lines.len() == MOST_LINES {
+            let words = format!("expected at most {MOST_LINES} lines, found another");
+            return Err(cursor.error(keyword.at, words));
+        }
+        lines.push(read_line(&mut cursor, keyword)?);
+    }
+    Ok(lines)
+}
+
+/// The line that a keyword begins.
+fn read_line(cursor: &mut Cursor<'_>, keyword: Word<'_>) -> Result<Line, TextError> {
+    match keyword.bytes {
+        b"class" => {
+            let line = read_classes(cursor)?;
+            expect_end(cursor, "a range has no blanks, as in '3-5'")?;
+            Ok(line)
+        }
+        b"record" => {
+            let line = read_record(cursor)?;
+            expect_end(cursor, QUOTES)?;
+            Ok(line)
+        }
+        other => {
+            let guess = did_you_mean(other, ["class", "record"]);
+            let words = format!("expected 'class' or 'record', {}{guess}", found(other));
+            Err(cursor.error(keyword.at, words))
+        }
+    }
+}
+
+/// What is behind `class`: a name, a class or a range.
+fn read_classes(cursor: &mut Cursor<'_>) -> Result<Line, TextError> {
+    let word = cursor.word();
+    if let Some(class) = class_names::class_named(word.bytes) {
+        return Ok(Line::class(class));
+    }
+    if !word.bytes.first().is_some_and(u8::is_ascii_digit) {
+        let guess = did_you_mean(word.bytes, class_names::all());
+        let words = format!("{A_CLASS}, {}{guess}", found(word.bytes));
+        return Err(cursor.error(word.at, words));
+    }
+    let (first, last) = word.split_at_byte(b'-');
+    let lowest = read_class(cursor, first)?;
+    let highest = last.map_or(Ok(lowest), |last| read_class(cursor, last))?;
+    if lowest > highest {
+        let words = format!(
+            "expected the lowest class before the highest, '{highest}-{lowest}', {}",
+            found(word.bytes)
+        );
+        return Err(cursor.error(word.at, words));
+    }
+    Ok(Line::classes(lowest, highest))
+}
+
+fn read_class(cursor: &Cursor<'_>, word: Word<'_>) -> Result<u8, TextError> {
+    let class = number(word.bytes).and_then(|class| class.try_into().ok());
+    class.ok_or_else(|| cursor.error(word.at, format!("{A_CLASS}, {}", found(word.bytes))))
+}
+
+/// What is behind `record`: a user ID and a record ID.
+fn read_record(cursor: &mut Cursor<'_>) -> Result<Line, TextError> {
+    let at = cursor.skip_blanks();
+    let bytes = match cursor.rest().first() {
+        Some(b'"') => quoted::read(cursor)?,
+        _ => read_bare(cursor)?.to_vec(),
+    };
+    let user_id = UserId::new(bytes).map_err(|long| cursor.error(at, long.to_string()))?;
+    let record_id = read_record_id(cursor)?;
+    Ok(Line::Record { user_id, record_id })
+}
+
+fn read_record_id(cursor: &mut Cursor<'_>) -> Result<u16, TextError> {
+    let word = cursor.word();
+    number(word.bytes).ok_or_else(|| {
+        let found = found(word.bytes);
+        let hint = match word.bytes.first() {
+            Some(byte) if byte.is_ascii_alphabetic() => format!(" ({QUOTES})"),
+            _ => String::new(),
+        };
+        let words =
+            format!("expected a record ID from 0 to 65535 behind the user ID, {found}{hint}");
+        cursor.error(word.at, words)
+    })
+}
+
+/// A user ID that is not quoted.
+fn read_bare<'a>(cursor: &mut Cursor<'a>) -> Result<&'a [u8], TextError> {
+    let word = cursor.word();
+    if word.bytes.is_empty() {
+        return Err(cursor.error(word.at, "expected a user ID, found nothing".into()));
+    }
+    match word.bytes.iter().position(|&byte| !stands_bare(byte)) {
+        None => Ok(word.bytes),
+        Some(place) => {
+            let words = format!(
+                "expected a user ID in double quotes, as in \"my survey\", since it has {}",
+                error::shown(&word.bytes[place..=place])
+            );
+            Err(cursor.error(word.at + place, words))
+        }
+    }
+}
+
+/// Nothing but a comment may be left of a line. The hint says what is often meant where there is more.
+fn expect_end(cursor: &mut Cursor<'_>, hint: &str) -> Result<(), TextError> {
+    let word = cursor.word();
+    if word.bytes.is_empty() {
+        return Ok(());
+    }
+    let words = format!(
+        "expected the end of the line or a comment, {} ({hint})",
+        found(word.bytes)
+    );
+    Err(cursor.error(word.at, words))
+}
+
+/// The number that these digits write, if they are digits and it has no more than 16 bits.
+fn number(digits: &[u8]) -> Option<u16> {
+    let text = std::str::from_utf8(digits).ok()?;
+    // A sign is no digit, though the library of Rust takes one.
+    text.bytes()
+        .all(|byte| byte.is_ascii_digit())
+        .then_some(text)?
+        .parse()
+        .ok()
+}
