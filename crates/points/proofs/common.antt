@@ -1,2 +1,3 @@
 mod BitsLaws
+pub mod PackedLaws
 pub mod RoomLaws

@@ -1,9 +1,10 @@
 // The fields that all point formats share, into the first 20 bytes of a record.
 ghost use mathlib.Core.Path.{_≡_};
+ghost use lib.ListN.{drop};
 ghost use lib.Seq.{sets};
 ghost use mir.Syntax.{w32};
 ghost use mir.Val.{ofZ};
-ghost use Rattle.fields.specs.Bytes.{join};
+ghost use Rattle.fields.specs.Bytes.{bytesOf, join};
 ghost use Rattle.points.specs.Encoding.{flagByte, sharedFields};
 use crate::Point;
 use crate::raw::CLASSIFICATION;
@@ -26,18 +27,24 @@ fn flag_byte(point: Point) -> u64
         + 128 * (point.edge as u64)
 }
 
+// Scan angle, user data and source ID as one number of 4 bytes, so that fewer numbers wait to be written.
+fn last_of(point: Point) -> u64
+    ensures { λ r. ⌜ bytesOf 4 r ≡ join (drop 6 (sharedFields point)) ⌝ }
+{
+    signed_bits(point.scan_angle as i32) % 256
+        + 256 * (point.user_data as u64)
+        + 65536 * (point.source_id as u64)
+}
+
 // Writes the fields that all formats share.
 pub(crate) fn put_shared(room: &mut [u8], point: Point)
     ensures { λ _. ⌜ now (room .exit) ≡ sets (now (room .entry)) 0 (join (sharedFields point)) ⌝ }
 {
-    let angle = signed_bits(point.scan_angle as i32);
     fields::numbers::put_number(room, 0, 4, signed_bits(point.x));
     fields::numbers::put_number(room, 4, 4, signed_bits(point.y));
     fields::numbers::put_number(room, 8, 4, signed_bits(point.z));
     fields::numbers::put_number(room, 12, 2, point.intensity as u64);
     fields::numbers::put_number(room, RETURNS, 1, flag_byte(point));
     fields::numbers::put_number(room, CLASSIFICATION, 1, point.class_byte as u64);
-    fields::numbers::put_number(room, 16, 1, angle);
-    fields::numbers::put_number(room, 17, 1, point.user_data as u64);
-    fields::numbers::put_number(room, 18, 2, point.source_id as u64);
+    fields::numbers::put_number(room, 16, 4, last_of(point));
 }

@@ -9,7 +9,6 @@ use lib.Dec.{T}
 use mir.Syntax.{Width, w8, w32, w64}
 use mir.Val.{Fits, SFits, toZ, ofZ, hbits}
 use mir.ValLaws.{toZ-ofZ}
-use Rattle.fields.specs.Bytes.{bytesOf}
 use borrow.Author.Tests.{le-ltb}
 
 -- ---- numbers that are passed on as their bits
@@ -24,16 +23,13 @@ pub passed : (w : Width) (z : ℤ) → SFits w z → ofZ w (toZ w (ofZ w z)) ≡
 passed w z f = ap (ofZ w) (toZ-ofZ w z f)
 
 -- the lowest byte of the 32 bits of a number of 8 bits
-low-byte : (z : ℤ) → SFits w8 z → bytesOf 1 (ofZ w32 z) ≡ bytesOf 1 (ofZ w8 z)
-unfolding bytesOf
-low-byte (pos n) f = refl
-low-byte (negsuc n) f =
-    let e : (4294967296 - suc n) % 256 ≡ (256 - suc n) % 256 = omega (arith, f .sfits) in
-    rw e
+low-byte : (z : ℤ) → SFits w8 z → ofZ w32 z % 256 ≡ ofZ w8 z
+low-byte (pos n) f = omega (arith, f .sfits)
+low-byte (negsuc n) f = omega (arith, f .sfits)
 
-pub passed-byte : (z : ℤ) → SFits w8 z → bytesOf 1 (ofZ w32 (toZ w32 (ofZ w32 (toZ w8 (ofZ w8 z))))) ≡ bytesOf 1 (ofZ w8 z)
+pub passed-byte : (z : ℤ) → SFits w8 z → ofZ w32 (toZ w32 (ofZ w32 (toZ w8 (ofZ w8 z)))) % 256 ≡ ofZ w8 z
 passed-byte z f =
-    ap (bytesOf 1) (passed w32 (toZ w8 (ofZ w8 z)) (cast-wider w8 w32 (omega arith) z f) ∙ ap (ofZ w32) (toZ-ofZ w8 z f)) ∙ low-byte z f
+    ap (λ (n : ℕ). n % 256) (passed w32 (toZ w8 (ofZ w8 z)) (cast-wider w8 w32 (omega arith) z f) ∙ ap (ofZ w32) (toZ-ofZ w8 z f)) ∙ low-byte z f
 
 -- ---- the bits of a number
 

@@ -1,6 +1,6 @@
 -- Laws of a room into which fields are written one behind another.
 -- Assumes nothing.
-use mathlib.Core.Path.{_≡_, sym, ap, _∙_}
+use mathlib.Core.Path.{_≡_, sym, _∙_}
 use Prim.Native.Nat.{ℕ, _+_}
 use mathlib.Core.List.{List, [], _∷_, append-nil}
 use lib.ListN.{length}
@@ -19,7 +19,3 @@ then-more d e r at w next a b fs s same wide n more =
 pub alone : (b : Bytes) → b ≡ join (b ∷ [])
 unfolding join
 alone b = sym (append-nil b)
-
--- the last field
-pub last-field : (d r : Bytes) (at : ℕ) (a b : Bytes) → r ≡ sets d at a → a ≡ b → r ≡ sets d at (join (b ∷ []))
-last-field d r at a b s same = s ∙ ap (sets d at) (same ∙ alone b)

@@ -2,7 +2,7 @@
 use native.Mathlib.Omega.{arith}
 use borrow.Author.Needs.{needs}
 use Rattle.points.specs.Encoding.{colours}
-use Rattle.points.proofs.encoding.RoomLaws.{bytes-three}
+use Rattle.points.proofs.common.PackedLaws.{bytes-three}
 use Rattle.points.proofs.encoding.colour_of.Statement.{statement}
 use Rattle.points.proofs.encoding.colour_of.Tie as tie
 
@@ -19,7 +19,7 @@ returns : tie.Need-returns
 unfolding colours
 returns c =
     let ranges = c .struct-known3 .given .1 .1 .1 .1 .1 .1 .1 .1 .1 .1 .1 .1 .1 in
-    bytes-three _ _ _ (omega (arith, ranges)) (omega (arith, ranges))
+    bytes-three 2 2 2 _ _ _ (omega (arith, ranges)) (omega (arith, ranges))
 
 pub colour-of-spec : {M : Type 1} → statement M
 colour-of-spec = tie.close (tie.spec (λ c. search needs) (λ c. search needs) (λ c. search needs) (λ c. search needs) cast-result-3 mul-result-2 add-result-2 returns)
