@@ -10,7 +10,7 @@ use mathlib.Core.List.{[], _∷_, _++_, append-assoc, append-nil}
 use lib.ListN.{length, take, drop, set, length-set, length-take, length-drop, take-append-drop, drop-of-length-le}
 use lib.Dec.{leb}
 use borrow.Author.Tests.{le-leb}
-use lib.Seq.{take-all, sets, sets-eq, paste, length-take-le, take-at, drop-at, set-out, drop-set-lt, drop-set-add, take-set-le}
+use lib.Seq.{take-all, sets, sets-eq, paste, length-take-le, take-at, drop-at, set-comm, set-out, drop-set-lt, drop-set-add, take-set-le}
 use Rattle.fields.specs.Bytes.{Bytes, part, num, bytesOf}
 use Rattle.fields.proofs.ByteLaws.{num-bytesOf, length-bytesOf}
 
@@ -24,6 +24,17 @@ sets-append d at (x ∷ xs) ys =
 -- a field of known width, and what is stored behind it
 pub store-behind : (d : Bytes) (at p w : ℕ) (f rest : Bytes) → length f ≡ w → p ≡ at + w → sets (sets d at f) p rest ≡ sets d at (f ++ rest)
 store-behind d at p w f rest e q = sym (sets-append d at f rest ∙ rw (e, ← q))
+
+-- a byte before a run that is stored already
+set-before : (d : Bytes) (i p x : ℕ) (ys : Bytes) → i < p → set (sets d p ys) i x ≡ sets (set d i x) p ys
+set-before d i p x [] h = refl
+set-before d i p x (y ∷ ys) h =
+    set-before (set d p y) i (suc p) x ys (omega arith) ∙ ap (λ (e : Bytes). sets e (suc p) ys) (set-comm d p i y x (λ e. absurd (omega (arith, e))))
+
+-- of two runs, the one behind may be stored first
+pub sets-swap : (d : Bytes) (at p : ℕ) (xs ys : Bytes) → at + length xs ≤ p → sets (sets d p ys) at xs ≡ sets (sets d at xs) p ys
+sets-swap d at p [] ys h = refl
+sets-swap d at p (x ∷ xs) ys h = rw (set-before d at p x ys (omega arith)) (sets-swap (set d at x) (suc at) p xs ys (omega arith))
 
 -- past the end nothing is stored
 pub sets-out : (d : Bytes) (at : ℕ) (xs : Bytes) → length d ≤ at → sets d at xs ≡ d

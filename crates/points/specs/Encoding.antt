@@ -113,7 +113,12 @@ pub record InRange (q : Point) : Type 0 where
   pub green : q .green < 2 ^ 16
   pub blue : q .blue < 2 ^ 16
 
--- ---- what the code's helpers leave in a room
+-- ---- what the code's helpers give, and what they leave in a room
+
+-- where a field begins, or the end where the format lacks it
+unfoldable pub startOf : ℕ → Place → ℕ
+startOf end Absent = end
+startOf end (At at) = at
 
 unfoldable pub storedAt : Place → Bytes → Bytes → Bytes
 storedAt Absent b room = room

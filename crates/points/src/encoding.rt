@@ -6,7 +6,7 @@ ghost use Rattle.fields.specs.Bytes.{bytesOf, join};
 ghost use Rattle.fields.specs.Checks.{fails};
 ghost use Rattle.points.specs.declared.formats.Place.the-variants.{At};
 ghost use Rattle.points.specs.Formats.{formatSize};
-ghost use Rattle.points.specs.Encoding.{colours, large, storedAt, withOthers, encoded};
+ghost use Rattle.points.specs.Encoding.{colours, large, startOf, storedAt, withOthers, encoded};
 use crate::Point;
 use crate::common;
 use crate::formats::Place;
@@ -21,15 +21,25 @@ fn colour_of(point: Point) -> u64
     point.red as u64 + 65536 * (point.green as u64) + 4294967296 * (point.blue as u64)
 }
 
-// Writes a number at a place, if the format has it. That there is room is asked once more, as in `number_in`.
+// Where a field begins; the end, where nothing has room, if the format lacks it.
+fn start_of(place: Place, end: usize) -> usize
+    ensures { λ r. ⌜ r ≡ startOf end place ⌝ }
+{
+    match place {
+        Place::At(at) => at,
+        Place::Absent => end,
+    }
+}
+
+// Writes a number at a place, if the format has it. That there is room is asked once more, as in `number_in`: here this
+// one test finds both, so that the number is made only where it is written.
 fn put_at(room: &mut [u8], place: Place, width: usize, n: u64)
     requires { ⌜ ((at : ℕ) → place ≡ At at → at + width ≤ length (now room)) ⌝ }
     ensures { λ _. ⌜ now (room .exit) ≡ storedAt place (bytesOf width n) (now (room .entry)) ⌝ }
 {
-    if let Place::At(at) = place {
-        if fields::numbers::fits_in(room.len(), at, width) {
-            fields::numbers::put_number(room, at, width, n);
-        }
+    let at = start_of(place, room.len());
+    if fields::numbers::fits_in(room.len(), at, width) {
+        fields::numbers::put_number(room, at, width, n);
     }
 }
 
@@ -52,7 +62,8 @@ fn is_large(point: Point) -> bool
     (7 < point.return_number) | (7 < point.returns)
 }
 
-// Writes a point's fields into a room of the record length. The bytes behind the format's size stay.
+// Writes a point's fields into a room of the record length. The bytes behind the format's size stay. What all formats
+// share comes last: the other fields need not be kept until it is written.
 pub fn encode(format: u8, record_length: u16, point: Point, room: &mut [u8]) -> Verdict
     ensures { λ r. ⌜ (r, now (room .exit)) ≡ encoded format «record_length» point (now (room .entry)) ⌝ }
 {
@@ -62,7 +73,7 @@ pub fn encode(format: u8, record_length: u16, point: Point, room: &mut [u8]) -> 
     if is_large(point) {
         return Verdict::Fails(refusals::FIELD_TOO_LARGE);
     }
-    common::put_shared(room, point);
     put_others(room, format, point);
+    common::put_shared(room, point);
     Verdict::Passes
 }

@@ -10,13 +10,13 @@ use lib.Seq.{sets}
 use Rattle.fields.specs.Lists.{total}
 use Rattle.fields.specs.Bytes.{Bytes, Fit, join}
 use Rattle.fields.proofs.ByteLaws.{length-join, length-bytesOf, join-append}
-use Rattle.fields.proofs.StoreLaws.{sets-append}
+use Rattle.fields.proofs.StoreLaws.{sets-append, sets-swap}
 use Rattle.points.specs.declared.formats.Place.{Place}
 use Rattle.points.specs.declared.formats.Place.the-variants.{At, Absent}
 use Rattle.points.specs.Formats.{formatSize, timePlace, colourPlace}
 use Rattle.points.proofs.formats.FormatLaws.{Follows, widthIf, layered}
 use Rattle.points.specs.declared.Point.{Point}
-use Rattle.points.specs.Encoding.{sharedFields, ifPlaced, storedAt, timeFields, colours, colourFields, pointFields, pointBytes}
+use Rattle.points.specs.Encoding.{sharedFields, ifPlaced, storedAt, withOthers, timeFields, colours, colourFields, pointFields, pointBytes}
 
 -- ---- the widths of the fields
 
@@ -68,18 +68,32 @@ unfolding storedAt ifPlaced join
 stored-behind Absent fs room b h = rw (append-nil b)
 stored-behind (At at) fs room b h = rw (h, ← zero-add (length b)) (sym (sets-append room 0 b (join fs)))
 
--- the room after the shared fields, and after GPS time and colour
-pub all-stored : (f : ℕ) (q : Point) (room shared whole : Bytes) → shared ≡ sets room 0 (join (sharedFields q))
-    → whole ≡ storedAt (colourPlace f) (join (colourFields (colourPlace f) q)) (storedAt (timePlace f) (join (timeFields (timePlace f) q)) shared)
+-- fields at a place, written before what stands in front of it
+stored-before : (place : Place) (n : ℕ) (b s room : Bytes) → Follows place n → length s ≤ n
+    → sets (storedAt place b room) 0 s ≡ storedAt place b (sets room 0 s)
+unfolding storedAt
+stored-before Absent n b s room f h = refl
+stored-before (At at) n b s room f h = sets-swap room 0 at s b (omega arith)
+
+-- the room after GPS time and colour, and after the shared fields
+pub all-stored : (f : ℕ) (q : Point) (room others whole : Bytes) → others ≡ withOthers f q room → whole ≡ sets others 0 (join (sharedFields q))
     → whole ≡ sets room 0 (pointBytes f q)
 unfolding timeFields colourFields
-all-stored f q room shared whole first then =
+all-stored f q room others whole first then =
     let t = timePlace f in
+    let k = colourPlace f in
     let s = join (sharedFields q) in
+    let b = join (timeFields t q) in
+    let c = join (colourFields k q) in
+    let front : length s ≤ 20 = omega (arith, length-shared q) in
+    let swapped : sets others 0 s ≡ storedAt k c (storedAt t b (sets room 0 s)) =
+    ap (λ (r : Bytes). sets r 0 s) first
+    ∙ stored-before k (20 + widthIf t 8) c s (storedAt t b room) (layered f .colour) (omega arith)
+    ∙ ap (storedAt k c) (stored-before t 20 b s room (layered f .time) front) in
     let time : Follows t (length s) = rw (length-shared q) (layered f .time) in
-    let wide : length (s ++ join (timeFields t q)) ≡ 20 + widthIf t 8 = length-append s (join (timeFields t q)) ∙ rw (length-shared q, length-time t q) in
-    let colour : Follows (colourPlace f) (length (s ++ join (timeFields t q))) = rw wide (layered f .colour) in
+    let wide : length (s ++ b) ≡ 20 + widthIf t 8 = length-append s b ∙ rw (length-shared q, length-time t q) in
+    let colour : Follows k (length (s ++ b)) = rw wide (layered f .colour) in
     then
-    ∙ rw (first, stored-behind t _ room s time)
-    (stored-behind (colourPlace f) _ room (s ++ join (timeFields t q)) colour
-    ∙ ap (sets room 0) (append-assoc s (join (timeFields t q)) (join (colourFields (colourPlace f) q)) ∙ sym (bytes-groups f q)))
+    ∙ swapped
+    ∙ rw (stored-behind t _ room s time)
+    (stored-behind k _ room (s ++ b) colour ∙ ap (sets room 0) (append-assoc s b c ∙ sym (bytes-groups f q)))

@@ -1,4 +1,4 @@
--- `encoding::encode` meets its contract: each group of fields is written behind the one before it. Assumes nothing.
+-- `encoding::encode` meets its contract: the shared fields are written in front of the others. Assumes nothing.
 use mathlib.Core.Path.{sym, ap, _∙_}
 use native.Mathlib.Omega.{arith}
 use lib.ListN.{length}
@@ -28,7 +28,7 @@ returns-2 c =
 
 put-others-requires : tie.Need-put-others-requires
 put-others-requires c κs =
-    let e = c .before .before .before .before .before in
+    let e = c .before in
     let i = e .before .before in
     let h = i .before in
     let a = h .before .before .args in
@@ -45,8 +45,8 @@ returns-3 c =
     let a = h .before .before .args in
     _∙_
     {b = (Passes, sets (a .room .now) 0 (pointBytes (a .format) (a .point)))}
-    (ap (λ (b : Bytes). (Passes, b)) (all-stored (a .format) (a .point) (a .room .now) _ _ (p .put-shared .ensures) (k .put-others .ensures)))
+    (ap (λ (b : Bytes). (Passes, b)) (all-stored (a .format) (a .point) (a .room .now) _ _ (p .put-others .ensures) (k .put-shared .ensures)))
     (sym (stored-by (a .format) (a .record-length) (a .point) (a .room .now) _ (h .has-shape .ensures) (i .if1 .left) (sym (e .before .is-large .ensures) ∙ e .if2 .left)))
 
 pub encode-spec : {M : Type 1} → statement M
-encode-spec = tie.close (tie.spec (λ c κs. tt) returns (λ c κs. tt) returns-2 (λ c κs. tt) put-others-requires (λ c. search needs) returns-3)
+encode-spec = tie.close (tie.spec (λ c κs. tt) returns (λ c κs. tt) returns-2 put-others-requires (λ c κs. tt) (λ c. search needs) returns-3)
