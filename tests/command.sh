@@ -138,7 +138,8 @@ is_empty() {
 
 # copy_repository DIR: what ./las-release needs of it, and nothing that was proved.
 copy_repository() {
-    mkdir "$1" && cp -r "$root/las-release" "$root/README.md" "$root/crates.txt" "$root/crates" "$1"
+    mkdir "$1" && cp -r "$root/las-release" "$root/README.md" "$root/crates.txt" "$root/crates" "$1" &&
+        mkdir "$1/tools" && cp "$root/tools/proving.sh" "$1/tools"
 }
 
 # what there is, proved; and how many crates that are
