@@ -46,7 +46,7 @@ impl Error {
     /// What its number says, in words.
     #[must_use]
     pub fn words(&self) -> &'static str {
-        words(self.number).unwrap_or("a number without words")
+        refusal_words(self.number).unwrap_or("a number without words")
     }
 }
 
@@ -98,8 +98,14 @@ pub(crate) fn passes_or_needs(number: u64, length: u64) -> Result<(), Error> {
     }
 }
 
-/// What a number says, for every number of the specification.
-fn words(number: u64) -> Option<&'static str> {
+/// What the number of a refusal says, in words; none for a number that the specification does not have.
+///
+/// ```
+/// assert_eq!(korbishaf::refusal_words(1), Some("fewer than 227 bytes"));
+/// assert_eq!(korbishaf::refusal_words(0), None);
+/// ```
+#[must_use]
+pub fn refusal_words(number: u64) -> Option<&'static str> {
     Some(match number {
         1 => "fewer than 227 bytes",
         2 => "signature is not \"LASF\"",
@@ -153,7 +159,10 @@ mod tests {
 
     #[test]
     fn every_number_has_words_of_its_own() {
-        let texts: HashSet<_> = NUMBERS.iter().filter_map(|&number| words(number)).collect();
+        let texts: HashSet<_> = NUMBERS
+            .iter()
+            .filter_map(|&number| refusal_words(number))
+            .collect();
         assert_eq!(texts.len(), NUMBERS.len());
     }
 
@@ -163,14 +172,14 @@ mod tests {
             .chain([u64::MAX])
             .filter(|number| !NUMBERS.contains(number))
         {
-            assert_eq!(words(number), None, "{number}");
+            assert_eq!(refusal_words(number), None, "{number}");
         }
     }
 
     #[test]
     fn words_are_one_line_each() {
         for number in NUMBERS {
-            let text = words(number).unwrap();
+            let text = refusal_words(number).unwrap();
             assert!(
                 !text.is_empty() && !text.contains('\n') && !text.contains("  "),
                 "{number}: {text}"

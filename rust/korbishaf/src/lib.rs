@@ -1,8 +1,8 @@
 //! Korbishaf for Rust: readers of LAS 1.2 files (point formats 0 to 3), and releases of what a keep sheet keeps
 //! of them.
 //!
-//! The functions here are thin, safe wrappers of those in the static library `libcapi.a`, which is proved to do what
-//! its definitions say. Any bytes may be passed. What can't be answered is refused with an [`Error`], which has a
+//! The functions here are thin, safe wrappers of those in Korbishaf's static library, which is proved to do what its
+//! definitions say. Any bytes may be passed. What can't be answered is refused with an [`Error`], which has a
 //! number and a kind and says why in words.
 //!
 //! A keep sheet is a [`Sheet`], which has passed the library's check: made of lines, of bytes or of a text. [`bytes`]
@@ -10,8 +10,10 @@
 //! this crate does by itself, and is tested but not proved: [`records`] reads each record out of a file that the
 //! library has checked, and [`Sheet`] goes from lines and text to bytes and back.
 //!
-//! The library is linked from the folder that the environment variable `KORBISHAF_LIB_DIR` names, else from
-//! the repository's `target/staticlib`, where `rt staticlib capi` writes it.
+//! The library, `libcapi.a` or `libkorbishaf.a`, is linked from the folder that the environment variable
+//! `KORBISHAF_LIB_DIR` names. Where that is not set, it is linked from the repository's `target/staticlib`, where
+//! `rt staticlib capi` writes it; by a crate that `./install` has put to `PREFIX/share/korbishaf/rust/korbishaf`, from
+//! `PREFIX/lib`.
 //!
 //! # Example
 //!
@@ -61,14 +63,15 @@ mod release;
 mod sheet;
 pub mod sys;
 
-pub use error::{Error, ErrorKind};
+pub use error::{Error, ErrorKind, refusal_words};
 pub use geokeys::{GeoKeyValue, geokey};
 pub use header::{Guid, Header, check_file, read_header};
 pub use points::{PlacedPoint, Point, Points, coordinate, decode, encode, point_at, points};
 pub use records::{Record, Records, Step, records, step};
 pub use release::{Released, release, release_to_vec};
 pub use sheet::{
-    Line, Lines, LongUserId, Sheet, SheetError, TextError, UserId, class_kept, record_kept,
+    Line, Lines, LongUserId, Sheet, SheetError, TextError, UserId, class_kept, class_name,
+    record_kept,
 };
 
 /// The number of the last change request that is in the library; 0 for the base.

@@ -7,7 +7,7 @@ mod user_id;
 
 pub use line::{Line, Lines};
 pub use read::SheetError;
-pub use text::TextError;
+pub use text::{TextError, class_name};
 pub use user_id::{LongUserId, UserId};
 
 use crate::bytes;
@@ -98,7 +98,7 @@ impl Sheet {
     ///   quotes, in which `\"`, `\\` and `\xNN` (two hexadecimal digits, not `\x00`) stand for a byte;
     /// - blank, or a comment from `#` on, which may also follow on one of the others.
     ///
-    /// Words are parted by spaces or tabs.
+    /// Words are parted by spaces or tabs. A byte order mark before the text is skipped.
     ///
     /// # Errors
     ///

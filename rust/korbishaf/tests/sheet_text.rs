@@ -134,3 +134,12 @@ fn at_most_64_lines() {
     let full = "# a line\n\nclass 2\n".repeat(64);
     assert_eq!(lines(format!("{full}\n# no line\n")).len(), 64);
 }
+
+/// Some editors put a byte order mark before a text.
+#[test]
+fn a_byte_order_mark_is_no_part_of_a_text() {
+    let sheet = Sheet::from_text("\u{feff}class 2\nrecord yard 7").unwrap();
+    assert_eq!(sheet.to_text(), "class 2\nrecord yard 7\n");
+    assert_eq!(Sheet::from_text("\u{feff}"), Ok(Sheet::new()));
+    assert!(Sheet::from_text("class 2\n\u{feff}class 3").is_err());
+}

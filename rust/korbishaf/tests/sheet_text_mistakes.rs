@@ -30,16 +30,16 @@ fn keywords() {
             ("clas 2", 1, "'clas'; did you mean 'class'?"),
             ("  Class 2", 3, "'Class'; did you mean 'class'?"),
             ("RECORDS a 7", 1, "'RECORDS'; did you mean 'record'?"),
-            ("\"class\" 2", 1, r#"'\"class\"'; did you mean 'class'?"#),
+            ("\"class\" 2", 1, r#"'"class"'; did you mean 'class'?"#),
             ("keep 2", 1, "'keep'"),
             ("2", 1, "'2'"),
             ("\0", 1, r"'\x00'"),
-            ("\u{feff}class 2", 1, r"'\xef\xbb\xbfclass'"),
+            (" \u{feff}class 2", 2, r"'\xEF\xBB\xBFclass'"),
         ],
     );
     let long = format!("{shared}'{}..'", "x".repeat(32));
     mistaken("x".repeat(1_000_000), 1, 1, &long);
-    mistaken(b"\xFF", 1, 1, &format!("{shared}'\\xff'"));
+    mistaken(b"\xFF", 1, 1, &format!("{shared}'\\xFF'"));
 }
 
 /// What every mistake in a class says first.
@@ -68,11 +68,30 @@ fn ranges() {
     all_mistaken(
         A_CLASS,
         &[
+            ("class 300-4", 7, "'300'"),
+            (
+                "class ground-building",
+                7,
+                "'ground-building' (a range has numbers, as in '3-5')",
+            ),
+            (
+                "class low-point-9",
+                7,
+                "'low-point-9' (a range has numbers, as in '3-5')",
+            ),
+        ],
+    );
+    all_mistaken(
+        "expected the highest class behind the '-', from 0 to 255, found ",
+        &[
             ("class 3-", 9, "nothing"),
             ("class 3-256", 9, "'256'"),
             ("class 3-4-5", 9, "'4-5'"),
-            ("class 300-4", 7, "'300'"),
-            ("class 2-ground", 9, "'ground'"),
+            (
+                "class 2-ground",
+                9,
+                "'ground' (a range has numbers, as in '3-5')",
+            ),
         ],
     );
     all_mistaken(
@@ -111,7 +130,7 @@ fn class_names() {
             (
                 "class \"ground\"",
                 7,
-                r#"'\"ground\"'; did you mean 'ground'?"#,
+                r#"'"ground"'; did you mean 'ground'?"#,
             ),
             ("class noise", 7, "'noise'"),
         ],
@@ -160,11 +179,11 @@ fn bare_user_ids() {
     all_mistaken(
         "expected a user ID in double quotes, as in \"my survey\", since it has ",
         &[
-            ("record ya\"rd 7", 10, r#"'\"'"#),
+            ("record ya\"rd 7", 10, r#"'"'"#),
             ("record ya\\rd 7", 10, r"'\\'"),
-            ("record M\u{fc}ller 7", 9, r"'\xc3'"),
+            ("record M\u{fc}ller 7", 9, r"'\xC3'"),
             ("record ya\x07rd 7", 10, r"'\x07'"),
-            ("record yard\r 7", 12, r"'\r'"),
+            ("record yard\r 7", 12, r"'\x0D'"),
         ],
     );
 }
@@ -191,7 +210,7 @@ fn quotes() {
         "expected a blank behind the quote, found ",
         &[
             ("record \"yard\"7", 14, "'7'"),
-            ("record \"a\"\"b\" 7", 11, r#"'\"'"#),
+            ("record \"a\"\"b\" 7", 11, r#"'"'"#),
         ],
     );
 }

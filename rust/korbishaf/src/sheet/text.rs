@@ -6,6 +6,7 @@ mod error;
 mod near;
 mod quoted;
 
+pub use class_names::class_name;
 pub use error::TextError;
 
 use super::user_id::{UserId, stands_bare};
@@ -17,12 +18,22 @@ use near::did_you_mean;
 /// What a class may be.
 const A_CLASS: &str = "expected a class from 0 to 255, 'lowest-highest' or a class name";
 
+/// What the other end of a range may be.
+const A_HIGHEST: &str = "expected the highest class behind the '-', from 0 to 255";
+
+/// What is often meant where a range has names.
+const NUMBERS: &str = " (a range has numbers, as in '3-5')";
+
+/// What some editors put before a text in UTF-8.
+const BYTE_ORDER_MARK: &[u8] = b"\xEF\xBB\xBF";
+
 /// What is often meant where a user ID is followed by too much.
 const QUOTES: &str = "a user ID with a blank stands in double quotes";
 
 /// The lines of a text, or its first mistake.
 pub(super) fn read(text: &[u8]) -> Result<Vec<Line>, TextError> {
     let mut lines = Vec::new();
+    let text = text.strip_prefix(BYTE_ORDER_MARK).unwrap_or(text);
     for (number, bytes) in (1..).zip(text.split(|&byte| byte == b'\n')) {
         let mut cursor = Cursor::new(number, bytes.strip_suffix(b"\r").unwrap_or(bytes));
         let keyword = cursor.word();
@@ -67,12 +78,17 @@ fn read_classes(cursor: &mut Cursor<'_>) -> Result<Line, TextError> {
     }
     if !word.bytes.first().is_some_and(u8::is_ascii_digit) {
         let guess = did_you_mean(word.bytes, class_names::all());
-        let words = format!("{A_CLASS}, {}{guess}", found(word.bytes));
+        let hint = if begins_with_name(word.bytes) {
+            NUMBERS
+        } else {
+            &guess
+        };
+        let words = format!("{A_CLASS}, {}{hint}", found(word.bytes));
         return Err(cursor.error(word.at, words));
     }
     let (first, last) = word.split_at_byte(b'-');
-    let lowest = read_class(cursor, first)?;
-    let highest = last.map_or(Ok(lowest), |last| read_class(cursor, last))?;
+    let lowest = read_class(cursor, first, A_CLASS)?;
+    let highest = last.map_or(Ok(lowest), |last| read_class(cursor, last, A_HIGHEST))?;
     if lowest > highest {
         let words = format!(
             "expected the lowest class before the highest, '{highest}-{lowest}', {}",
@@ -83,9 +99,19 @@ fn read_classes(cursor: &mut Cursor<'_>) -> Result<Line, TextError> {
     Ok(Line::classes(lowest, highest))
 }
 
-fn read_class(cursor: &Cursor<'_>, word: Word<'_>) -> Result<u8, TextError> {
+fn read_class(cursor: &Cursor<'_>, word: Word<'_>, expected: &str) -> Result<u8, TextError> {
     let class = number(word.bytes).and_then(|class| class.try_into().ok());
-    class.ok_or_else(|| cursor.error(word.at, format!("{A_CLASS}, {}", found(word.bytes))))
+    class.ok_or_else(|| {
+        let is_name = class_names::class_named(word.bytes).is_some();
+        let hint = if is_name { NUMBERS } else { "" };
+        cursor.error(word.at, format!("{expected}, {}{hint}", found(word.bytes)))
+    })
+}
+
+/// Whether a word is the name of a class, a `-` and more.
+fn begins_with_name(word: &[u8]) -> bool {
+    let mut dashes = (0..word.len()).filter(|&place| word[place] == b'-');
+    dashes.any(|place| class_names::class_named(&word[..place]).is_some())
 }
 
 /// What is behind `record`: a user ID and a record ID.

@@ -15,6 +15,18 @@ const NAMES: [(u8, &str); 11] = [
     (12, "overlap"),
 ];
 
+/// The name of a class in LAS 1.2; none for those that it reserves.
+///
+/// ```
+/// assert_eq!(korbishaf::class_name(2), Some("ground"));
+/// assert_eq!(korbishaf::class_name(10), None);
+/// ```
+#[must_use]
+pub fn class_name(class: u8) -> Option<&'static str> {
+    let found = NAMES.iter().find(|&&(named, _)| named == class);
+    found.map(|&(_, name)| name)
+}
+
 /// All names.
 pub(super) fn all() -> impl Iterator<Item = &'static str> {
     NAMES.iter().map(|&(_, name)| name)

@@ -81,8 +81,17 @@ pub(super) fn found(bytes: &[u8]) -> String {
 
 /// Bytes between quotes, as printable ASCII, and not too many of them.
 pub(super) fn shown(bytes: &[u8]) -> String {
-    match bytes.get(..SHOWN) {
-        Some(start) if bytes.len() > SHOWN => format!("'{}..'", start.escape_ascii()),
-        _ => format!("'{}'", bytes.escape_ascii()),
+    let (start, more) = match bytes.get(..SHOWN) {
+        Some(start) if bytes.len() > SHOWN => (start, ".."),
+        _ => (bytes, ""),
+    };
+    let mut shown = String::from("'");
+    for &byte in start {
+        match byte {
+            b'\\' | b'\'' => shown.extend(['\\', char::from(byte)]),
+            b' '..=b'~' => shown.push(char::from(byte)),
+            _ => shown.push_str(&format!("\\x{byte:02X}")),
+        }
     }
+    shown + more + "'"
 }
