@@ -1,0 +1,84 @@
+//! `korbishaf report`
+
+mod json;
+mod name;
+pub(super) mod plan;
+mod text;
+mod warning;
+mod warnings;
+
+use crate::arguments::Arguments;
+use crate::command::{Command, Flag};
+use crate::failure::Failure;
+use crate::input::Opened;
+use crate::keep_sheet::KeepSheet;
+use crate::progress::Progress;
+use crate::{console, refusal, room};
+use plan::Plan;
+use std::io::{self, Write};
+
+pub const COMMAND: Command = Command {
+    name: "report",
+    operands: "IN SHEET",
+    count: (2, 2),
+    flags: &[Flag::Quiet, Flag::Json],
+    summary: "say what SHEET would keep of the scan IN, and warn; write nothing",
+    details: "\
+Says what a release of the scan IN under the keep sheet SHEET would have, and writes nothing: what goes
+out, what stays, what is published whatever the sheet says, and warnings. The status is 0 with warnings
+too. What a release would refuse is refused, with the reason in words on standard error.
+
+A release has every byte of a point that goes out, and of a record all but its reserved field. What
+stands behind the first zero byte of a text field stays, and counts and bounds are worked out anew.
+
+It warns of
+
+  lines of the sheet that match nothing in IN
+  records that stay, though but for case or blanks a line of the sheet has their name
+  a GeoKey directory that goes out without the records that its keys point to
+  points that stay for a flag in the upper bits of their class, such as 66 where class 2 goes out
+  all or none of the points going out
+  points by return and bounds that IN states wrongly
+
+A line of a sheet that is a text is named by its file and its place there, as in sheet.txt:5; the lines
+of a sheet of bytes are counted from 1. Of the names that a line nearly has the first 32 are there, and
+how many more records have such names.
+
+Texts of files are shown in ASCII, here and in JSON: a backslash is doubled, and a byte that is not
+printable stands as \\xNN. In JSON each warning has a kind, its words, and what they speak of.
+",
+    run,
+};
+
+fn run(arguments: &Arguments) -> Result<(), Failure> {
+    let [file, sheet] = arguments.operands.as_slice() else {
+        return Err(COMMAND.misused("expected two words"));
+    };
+    COMMAND.reads_standard_input_once(&arguments.operands)?;
+    let (file, sheet) = (Opened::new(file)?, Opened::new(sheet)?);
+    let name = file.name.clone();
+    let progress = Progress::new(arguments.quiet);
+    let sheet = KeepSheet::read(sheet)?;
+    let file = file.read(&progress)?;
+    room::is_left_beside(&name)?;
+    let plan = Plan::of(&file, &sheet, &progress);
+    drop(progress);
+    let plan =
+        plan.map_err(|refused| Failure::Refused(refusal::of(&name, &file, &sheet, &refused)))?;
+    console::stream(|out| write(out, &name, &plan, arguments.json))
+}
+
+/// Writes the report on a file of that name.
+pub(super) fn write(
+    out: &mut dyn Write,
+    name: &str,
+    plan: &Plan<'_>,
+    as_json: bool,
+) -> io::Result<()> {
+    let warnings = warnings::of(plan);
+    if as_json {
+        writeln!(out, "{}", json::of(name, plan, warnings))
+    } else {
+        text::write(out, name, plan, &warnings)
+    }
+}

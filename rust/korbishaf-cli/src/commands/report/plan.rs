@@ -1,0 +1,112 @@
+//! What a sheet would keep of a file.
+
+use super::name::{self, Name};
+use crate::facts::Facts;
+use crate::keep_sheet::KeepSheet;
+use crate::progress::Progress;
+use crate::releasing;
+use korbishaf::{Error, Line, Record, Sheet, class_kept, record_kept};
+use std::collections::BTreeSet;
+
+/// A file's facts, parted by what the library keeps under a sheet.
+pub struct Plan<'a> {
+    /// The file's facts.
+    pub facts: Facts<'a>,
+    /// The sheet.
+    pub sheet: Sheet,
+    /// The sheet as it was read.
+    pub keep_sheet: &'a KeepSheet,
+    /// The released file's length.
+    pub length: usize,
+    kept_classes: [bool; 256],
+    kept_names: BTreeSet<Name>,
+}
+
+impl<'a> Plan<'a> {
+    /// The plan of a release, or why it would be refused: the file is checked before the sheet.
+    pub fn of(
+        file: &'a [u8],
+        keep_sheet: &'a KeepSheet,
+        progress: &Progress,
+    ) -> Result<Self, Error> {
+        let length = releasing::needed(file, &keep_sheet.bytes, progress)?;
+        let sheet = Sheet::from_bytes(&*keep_sheet.bytes)?;
+        Ok(Plan {
+            facts: Facts::of(file, progress)?,
+            kept_classes: std::array::from_fn(|class| class_kept(&sheet, class as u8)),
+            kept_names: kept_names(&sheet),
+            sheet,
+            keep_sheet,
+            length,
+        })
+    }
+
+    /// Whether points of a class go out.
+    pub fn keeps_class(&self, class: u8) -> bool {
+        self.kept_classes[usize::from(class)]
+    }
+
+    /// Whether a record goes out.
+    pub fn keeps_record(&self, record: &Record<'_>) -> bool {
+        self.kept_names.contains(&name::of(record))
+    }
+
+    /// The classes that go out, or those that stay, with their numbers of points.
+    pub fn classes(&self, going_out: bool) -> impl Iterator<Item = (u8, u64)> + Clone {
+        let classes = self.facts.tally.classes();
+        classes.filter(move |&(class, _)| self.keeps_class(class) == going_out)
+    }
+
+    /// The number of points that go out, or that stay.
+    pub fn points(&self, going_out: bool) -> u64 {
+        self.classes(going_out).map(|(_, points)| points).sum()
+    }
+
+    /// The records that go out, or those that stay, with their numbers in the file, from 1.
+    pub fn records(&self, going_out: bool) -> impl Iterator<Item = (usize, Record<'a>)> + Clone {
+        let records = (1..).zip(self.facts.records());
+        records.filter(move |(_, record)| self.keeps_record(record) == going_out)
+    }
+}
+
+/// The names of records that go out. The library is asked once for each name that a line has, and not for each of very
+/// many records; no other name is kept.
+fn kept_names(sheet: &Sheet) -> BTreeSet<Name> {
+    let kept = sheet.lines().filter(|line| match line {
+        Line::Record { user_id, record_id } => record_kept(sheet, user_id.as_bytes(), *record_id),
+        _ => false,
+    });
+    kept.filter_map(|line| name::of_line(&line)).collect()
+}
+
+#[cfg(test)]
+mod tests {
+    use super::*;
+    use compare::rng::{Rng, seeds};
+    use compare::spec::{FileSpec, SheetSpec};
+
+    #[test]
+    fn records_and_classes_go_out_as_the_library_says() {
+        let mut seen = [0; 2];
+        for seed in seeds() {
+            let mut rng = Rng::new(seed);
+            for _ in 0..2000 {
+                let (file, bytes) = (
+                    FileSpec::random(&mut rng).bytes(),
+                    SheetSpec::random(&mut rng).bytes(),
+                );
+                let keep_sheet = KeepSheet::of_bytes("sheet.bin", bytes);
+                let plan = Plan::of(&file, &keep_sheet, &Progress::none()).unwrap();
+                for record in plan.facts.records() {
+                    let kept = record_kept(&plan.sheet, record.user_id, record.record_id);
+                    assert_eq!(plan.keeps_record(&record), kept);
+                    seen[usize::from(kept)] += 1;
+                }
+                for class in 0..=255 {
+                    assert_eq!(plan.keeps_class(class), class_kept(&plan.sheet, class));
+                }
+            }
+        }
+        assert!(seen.iter().all(|&count| count > 500), "{seen:?}");
+    }
+}

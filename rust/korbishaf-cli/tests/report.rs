@@ -1,0 +1,471 @@
+//! `korbishaf report`, as a process.
+
+mod common;
+
+use common::json::{self, Value};
+use common::scan::{of_classes, point, record};
+use common::{Ran, Scratch};
+use compare::damage::spoil;
+use compare::rng::{Rng, seeds};
+use compare::spec::{FileSpec, SheetSpec, directory, projection};
+use std::fs::File;
+
+/// How many random files and sheets are compared with `las_plain`, for each seed.
+const FILES: usize = 150;
+
+/// A folder with the files `in.las` and `sheet.txt`.
+fn with_files(file: &[u8], sheet: impl AsRef<[u8]>) -> Scratch {
+    let scratch = Scratch::new();
+    scratch.write("in.las", file);
+    scratch.write("sheet.txt", sheet);
+    scratch
+}
+
+/// The warnings of a report: kinds and words. Text and JSON have to have the same, and the status is 0.
+fn warnings(file: &FileSpec, sheet: &str) -> Vec<(String, String)> {
+    let scratch = with_files(&file.bytes(), sheet);
+    let text = scratch.says("report in.las sheet.txt");
+    let ran = scratch.says("report --json in.las sheet.txt");
+    for ran in [&text, &ran] {
+        assert_eq!((ran.status, ran.err.as_str()), (Some(0), ""), "{sheet}");
+    }
+    let json = json::read(&ran.out).expect("JSON");
+    let found: Vec<_> = json.at("warnings").list().iter().map(warning).collect();
+    let words = match found.as_slice() {
+        [] => "  none\n".to_string(),
+        found => found
+            .iter()
+            .map(|(_, words)| format!("  - {words}\n"))
+            .collect(),
+    };
+    let (_, section) = text.out.split_once("\nWarnings\n").expect("a section");
+    assert_eq!(section, words);
+    found
+}
+
+fn warning(json: &Value) -> (String, String) {
+    let [kind, words] = ["kind", "words"].map(|name| json.at(name).text().to_string());
+    (kind, words)
+}
+
+/// Asserts that a report has this warning and no other.
+fn warns(file: &FileSpec, sheet: &str, kind: &str, words: &str) {
+    assert_eq!(
+        warnings(file, sheet),
+        [(kind.to_string(), words.to_string())],
+        "{sheet}"
+    );
+}
+
+/// Asserts that a report has no warning.
+fn is_silent(file: &FileSpec, sheet: &str) {
+    assert_eq!(warnings(file, sheet), [], "{sheet}");
+}
+
+#[test]
+fn the_cards_are_reported_on_and_nothing_is_written() {
+    for (card, text, json) in [
+        (
+            "yard",
+            include_str!("expected/report-yard.txt"),
+            include_str!("expected/report-yard.json"),
+        ),
+        (
+            "survey",
+            include_str!("expected/report-survey.txt"),
+            include_str!("expected/report-survey.json"),
+        ),
+    ] {
+        let scratch = Scratch::with_card(card);
+        let names = scratch.names();
+        assert_eq!(
+            scratch.says("report in.las sheet.bin"),
+            Ran::new(0, text, "")
+        );
+        assert_eq!(
+            scratch.says("report --json in.las sheet.bin"),
+            Ran::new(0, json, "")
+        );
+        assert!(json::read(json).is_some());
+        assert_eq!(scratch.names(), names);
+    }
+}
+
+#[test]
+fn lines_that_match_nothing() {
+    let mut file = of_classes(&[2, 6]);
+    file.records.push(record(b"yard", 7, 3));
+    is_silent(&file, "class 2\nrecord yard 7");
+    is_silent(&file, "class 0-5\n# class 9\n");
+    let words = "sheet.txt:4: matches nothing in this file: class 3-5";
+    warns(
+        &file,
+        "# two lines\nclass 2\n\nclass 3-5",
+        "line_matches_nothing",
+        words,
+    );
+    let words = "sheet.txt:1: matches nothing in this file: record yard 8";
+    warns(
+        &file,
+        "record yard 8\nclass 6",
+        "line_matches_nothing",
+        words,
+    );
+    let words = r#"sheet.txt:1: matches nothing in this file: record "my \x1B" 7"#;
+    warns(
+        &file,
+        "record \"my \\x1B\" 7\nclass 6",
+        "line_matches_nothing",
+        words,
+    );
+}
+
+/// A file of the classes 2 and 6 with a GeoKey directory that points to these locations, and these records too.
+fn with_keys(locations: &[u16], parameters: &[u16]) -> FileSpec {
+    let entry = |(key, &location): (u16, &u16)| [key, location, 1, 0];
+    let entries: Vec<_> = (2057..).zip(locations).map(entry).collect();
+    let payload = directory([1, 1, 0, entries.len() as u16], &entries);
+    let mut file = of_classes(&[2, 6]);
+    file.records.push(projection(34735, payload));
+    let parameters = parameters.iter().map(|&id| projection(id, [0x20; 8]));
+    file.records.extend(parameters);
+    file
+}
+
+#[test]
+fn a_directory_without_the_parameters_that_its_keys_point_to() {
+    let directory_alone = "class 2\nrecord LASF_Projection 34735";
+    let with_doubles = "class 2\nrecord LASF_Projection 34735\nrecord LASF_Projection 34736";
+    is_silent(&with_keys(&[0, 0], &[34736, 34737]), directory_alone);
+    is_silent(&with_keys(&[0, 34736], &[34736, 34737]), with_doubles);
+    is_silent(&with_keys(&[34736, 34737], &[34736, 34737]), "class 2");
+    let words = "the GeoKey directory goes out, and its key 2058 GeogSemiMinorAxisGeoKey points to the record \
+                 LASF_Projection 34736, which stays; the line 'record LASF_Projection 34736' would keep it";
+    let file = with_keys(&[0, 34736, 34736], &[34736, 34737]);
+    warns(&file, directory_alone, "parameters_not_kept", words);
+    let words = "the GeoKey directory goes out, and its key 2059 GeogInvFlatteningGeoKey points to the record \
+                 LASF_Projection 34737, which this file does not have";
+    let file = with_keys(&[0, 34736, 34737], &[34736]);
+    warns(&file, with_doubles, "parameters_absent", words);
+    let both = with_keys(&[34737, 34736], &[34737]);
+    let kinds = warnings(&both, directory_alone)
+        .into_iter()
+        .map(|(kind, _)| kind);
+    assert!(kinds.eq(["parameters_absent", "parameters_not_kept"]));
+}
+
+#[test]
+fn records_whose_names_a_line_nearly_has() {
+    let mut file = of_classes(&[2, 6]);
+    for user_id in [&b"yard"[..], b"Yard", b"yard ", b" ya rd", b"yards"] {
+        file.records.push(record(user_id, 7, 1));
+    }
+    file.records.push(record(b"YARD", 8, 1));
+    let near = |number: usize, name: &str| {
+        let words = format!(
+            "record {number}, {name} 7, stays: its name differs only in case or blanks from sheet.txt:2: record yard 7"
+        );
+        ("record_nearly_named".to_string(), words)
+    };
+    let wanted = [
+        near(2, "\"Yard\""),
+        near(3, "\"yard \""),
+        near(4, "\" ya rd\""),
+    ];
+    assert_eq!(warnings(&file, "class 2\nrecord yard 7"), wanted);
+    file.records
+        .extend([record(b"Yard", 7, 2), record(b"Yard", 7, 3)]);
+    let words = "record 2, \"Yard\" 7, and 2 more of that name stay: it differs only in case or blanks from \
+                 sheet.txt:2: record yard 7";
+    assert_eq!(warnings(&file, "class 2\nrecord yard 7")[0].1, words);
+    file.records.truncate(6);
+    file.records.drain(1..4);
+    is_silent(&file, "class 2\nrecord yard 7");
+    is_silent(&file, "class 2\nrecord yard 7\nrecord YARD 8");
+}
+
+/// The lines of a sheet of bytes are counted, since it has no text.
+#[test]
+fn lines_of_bytes_are_counted() {
+    let mut file = of_classes(&[2, 6]);
+    file.records.push(record(b"Yard", 7, 1));
+    let sheet =
+        korbishaf::Sheet::from_text("class 2\n\nclass 9\n# comment\nrecord yard 7").unwrap();
+    let scratch = with_files(&file.bytes(), sheet.as_bytes());
+    let text = scratch.says("report in.las sheet.txt").out;
+    let (_, section) = text.split_once("\nWarnings\n").expect("a section");
+    let wanted = "  - line 2 of sheet.txt: matches nothing in this file: class 9
+  - line 3 of sheet.txt: matches nothing in this file: record yard 7
+  - record 1, \"Yard\" 7, stays: its name differs only in case or blanks from line 3 of sheet.txt: record yard 7
+";
+    assert_eq!(section, wanted);
+    let json = json::read(&scratch.says("report --json in.las sheet.txt").out).expect("JSON");
+    for (path, wanted) in [("0/line", 2), ("1/line", 3), ("2/line", 3)] {
+        assert_eq!(json.at("warnings").at(path).number(), wanted, "{path}");
+    }
+}
+
+/// However many spellings of a name a file has, 32 of them have warnings of their own.
+#[test]
+fn near_names_that_are_many_are_counted() {
+    let spelling = |index: usize| {
+        let letters = (0..8).map(|bit| if index >> bit & 1 == 1 { b'A' } else { b'a' });
+        record(&letters.collect::<Vec<u8>>(), 7, 0)
+    };
+    let mut file = of_classes(&[2, 6]);
+    file.records = (0..33).map(spelling).collect();
+    let sheet = "class 2\nrecord aaaaaaaa 7";
+    let found = warnings(&file, sheet);
+    assert_eq!(found.len(), 32);
+    assert!(found.iter().all(|(kind, _)| kind == "record_nearly_named"));
+    for (spellings, words) in [
+        (
+            34,
+            "1 more record stays whose name nearly matches a line of the sheet",
+        ),
+        (
+            40,
+            "7 more records stay whose names nearly match a line of the sheet",
+        ),
+    ] {
+        file.records = (0..spellings).map(spelling).collect();
+        // those of a name that has a warning are counted there
+        file.records.push(spelling(32));
+        let found = warnings(&file, sheet);
+        assert_eq!(found.len(), 33);
+        assert!(
+            found[31].1.contains("and 1 more of that name stay"),
+            "{}",
+            found[31].1
+        );
+        assert_eq!(
+            found[32],
+            ("more_records_nearly_named".into(), words.into())
+        );
+    }
+}
+
+#[test]
+fn points_that_stay_for_a_flag() {
+    let file = of_classes(&[2, 6, 66, 66, 130]);
+    is_silent(&file, "class 6");
+    is_silent(&file, "class 2\nclass 66\nclass 130");
+    let stays = |words: &str| ("flags_not_kept".to_string(), words.to_string());
+    let wanted = [
+        stays(
+            "class 66 (ground, key-point) stays, 2 points, though class 2 goes out: a class is the whole byte, with \
+             its flags; the line 'class 66' would keep it",
+        ),
+        stays(
+            "class 130 (ground, withheld) stays, 1 point, though class 2 goes out: a class is the whole byte, with \
+             its flags; the line 'class 130' would keep it",
+        ),
+    ];
+    assert_eq!(warnings(&file, "class ground"), wanted);
+}
+
+#[test]
+fn all_or_none_of_the_points() {
+    let file = of_classes(&[2, 2, 6]);
+    is_silent(&file, "class 2");
+    warns(
+        &file,
+        "class 2-6",
+        "every_point_goes_out",
+        "every point goes out (3 of 3)",
+    );
+    warns(&file, "", "no_point_goes_out", "no point goes out (0 of 3)");
+    is_silent(&of_classes(&[]), "");
+}
+
+#[test]
+fn stated_counts_and_bounds_that_are_wrong() {
+    let mut file = of_classes(&[2]);
+    file.points.push(point([100, -200, 0], 6, 2));
+    file.old_by_return = [1, 1, 0, 0, 0];
+    file.old_bounds = [1.0, 0.0, -0.0, -2.0, 0.0, 0.0].map(f64::to_bits);
+    is_silent(&file, "class 2");
+    let mut wrong = file.clone();
+    wrong.old_by_return = [1, 2, 0, 0, 7];
+    let words = "the stated points by return are wrong (return 2, return 5); a release has its own";
+    warns(&wrong, "class 2", "returns_wrong", words);
+    file.old_bounds[4] = f64::NAN.to_bits();
+    let words = "the stated bounds are wrong (max Z); a release has its own";
+    warns(&file, "class 2", "bounds_wrong", words);
+}
+
+#[test]
+fn what_warnings_speak_of_is_in_json() {
+    let mut file = of_classes(&[2, 66]);
+    file.records.push(record(b"Yard\x07", 7, 1));
+    file.old_by_return = [9, 0, 0, 0, 0];
+    let sheet = "class 2\n# a comment\r\nrecord \"yard \\x07\" 7\n\nclass 9";
+    let ran = with_files(&file.bytes(), sheet).says("report --json in.las sheet.txt");
+    let json = json::read(&ran.out).expect("JSON");
+    let json = json.at("warnings");
+    for (path, wanted) in [
+        ("0/kind", "line_matches_nothing"),
+        ("1/kind", "line_matches_nothing"),
+        ("1/line_text", "class 9"),
+        ("2/kind", "record_nearly_named"),
+        ("2/user_id", "Yard\\x07"),
+        ("3/kind", "flags_not_kept"),
+        ("4/kind", "returns_wrong"),
+    ] {
+        assert_eq!(json.at(path).text(), wanted, "{path}");
+    }
+    for (path, wanted) in [
+        ("1/line", 5),
+        ("2/line", 3),
+        ("2/first_record", 1),
+        ("2/records", 1),
+        ("2/record_id", 7),
+        ("3/class", 66),
+        ("3/kept_class", 2),
+        ("3/points", 1),
+        ("4/values/0/stated", 9),
+        ("4/values/0/actual", 2),
+    ] {
+        assert_eq!(json.at(path).number(), wanted, "{path}");
+    }
+}
+
+#[test]
+fn refusals_come_in_the_order_of_a_release() {
+    let good = of_classes(&[2]).bytes();
+    let mut bad = good.clone();
+    spoil(&mut bad, 3);
+    let of_file = "in.las: refused 3: version is not 1.2 (version 1.3)\n";
+    let of_sheet = "sheet.txt: refused 21: a line of the sheet is of an unknown kind (line 1 at byte 0: kind 7)\n";
+    let of_text =
+        "sheet.txt:1:1: expected 'class' or 'record', found 'clas'; did you mean 'class'?\n";
+    for (file, sheet, words) in [
+        (&bad, "class 2", of_file),
+        (&bad, "KS\x07", of_file),
+        (&good, "KS\x07", of_sheet),
+        (&good, "clas 2", of_text),
+        (&bad, "clas 2", of_text),
+    ] {
+        let scratch = with_files(file, sheet);
+        assert_eq!(
+            scratch.says("report in.las sheet.txt"),
+            Ran::new(1, "", words)
+        );
+        assert_eq!(
+            scratch.says("report --json in.las sheet.txt"),
+            Ran::new(1, "", words)
+        );
+        // a release says the same
+        assert_eq!(scratch.says("release in.las sheet.txt out.las").err, words);
+    }
+}
+
+#[test]
+fn every_number_of_a_file_is_given() {
+    for number in 1..=10 {
+        let mut file = of_classes(&[2]).bytes();
+        spoil(&mut file, number);
+        let ran = with_files(&file, "class 2").says("report in.las sheet.txt");
+        assert_eq!((ran.status, ran.out.as_str()), (Some(1), ""));
+        assert!(
+            ran.err.starts_with(&format!("in.las: refused {number}: ")),
+            "{}",
+            ran.err
+        );
+    }
+}
+
+#[test]
+fn a_dash_is_standard_input() {
+    let scratch = Scratch::with_card("yard");
+    let wanted = include_str!("expected/report-yard.txt");
+    for (words, from, name, shown) in [
+        (
+            ["report", "-", "sheet.bin"],
+            "in.las",
+            "in.las under",
+            "standard input under",
+        ),
+        (
+            ["report", "in.las", "-"],
+            "sheet.bin",
+            "under sheet.bin",
+            "under standard input",
+        ),
+    ] {
+        let mut command = scratch.command(words);
+        command.stdin(File::open(scratch.path(from)).unwrap());
+        let wanted = wanted.replacen(name, shown, 1);
+        assert_eq!(Ran::of(command.output().unwrap()), Ran::new(0, &wanted, ""));
+    }
+    assert_eq!(scratch.says("report - -").status, Some(2));
+}
+
+#[test]
+fn wrong_usage_and_missing_files_have_statuses_of_their_own() {
+    let scratch = with_files(&of_classes(&[2]).bytes(), "class 2");
+    for (words, status) in [
+        ("report in.las", 2),
+        ("report in.las sheet.txt out.las", 2),
+        ("report in.las missing.txt", 3),
+        ("report missing.las sheet.txt", 3),
+        ("report in.las in.las", 1),
+        ("report --help", 0),
+    ] {
+        assert_eq!(scratch.says(words).status, Some(status), "{words}");
+    }
+    assert_eq!(scratch.names(), ["in.las", "sheet.txt"]);
+}
+
+#[test]
+fn what_goes_out_and_what_stays_agree_with_las_plain() {
+    let scratch = Scratch::new();
+    for seed in seeds() {
+        let mut rng = Rng::new(seed);
+        for index in 0..FILES {
+            let file = FileSpec::random(&mut rng);
+            let (bytes, sheet) = (file.bytes(), SheetSpec::random(&mut rng));
+            scratch.write("in.las", &bytes);
+            scratch.write("sheet.bin", sheet.bytes());
+            let ran = scratch.says("report --json in.las sheet.bin");
+            let json = json::read(&ran.out).expect("JSON");
+            let mut out = vec![0; bytes.len()];
+            let wanted = las_plain::release(&bytes, &sheet.bytes(), &mut out).unwrap();
+            let at = format!("file {index} of seed {seed}");
+            assert_eq!(json.at("goes_out/length").number(), wanted.length, "{at}");
+            assert_share(&file, &sheet, &json, true);
+            assert_share(&file, &sheet, &json, false);
+            assert_eq!(json.at("goes_out/points").number(), wanted.points, "{at}");
+            let records = json.at("goes_out/records").list().len() as u64;
+            assert_eq!(records, wanted.records, "{at}");
+        }
+    }
+}
+
+/// The classes and records that go out, or that stay, by the sheet's own description.
+fn assert_share(file: &FileSpec, sheet: &SheetSpec, json: &Value, going_out: bool) {
+    let share = json.at(if going_out { "goes_out" } else { "stays" });
+    let mut classes = std::collections::BTreeMap::new();
+    for point in &file.points {
+        if sheet.keeps_point(point) == going_out {
+            *classes.entry(u64::from(point[15])).or_insert(0) += 1;
+        }
+    }
+    let found = share.at("points_by_class").list().iter();
+    let found = found.map(|count| (count.at("class").number(), count.at("points").number()));
+    assert!(found.eq(classes.clone()), "{share:?}");
+    assert_eq!(share.at("points").number(), classes.values().sum::<u64>());
+    let records = (1..).zip(&file.records);
+    let wanted = records.filter(|(_, record)| sheet.keeps_record(record) == going_out);
+    let found = share.at("records").list().iter();
+    let found = found.map(|record| {
+        (
+            record.at("number").number(),
+            record.at("record_id").number(),
+        )
+    });
+    assert!(
+        found.eq(wanted.map(|(number, record)| (number, record.record_id.into()))),
+        "{share:?}"
+    );
+}
