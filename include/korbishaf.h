@@ -3,7 +3,7 @@
  *
  * Korbishaf reads LAS 1.2 files (point formats 0 to 3) and releases samples of
  * them under a keep sheet. Link with libcapi.a, which `rt staticlib capi` writes
- * to target/staticlib.
+ * to target/staticlib, or with -lkorbishaf where `./install` has put it.
  *
  * Rules that hold for every function:
  *
