@@ -5,7 +5,7 @@ use std::path::Path;
 
 use crate::library::Library;
 
-const USAGE: &str = "usage: bench [--before SHARED_OBJECT]";
+const USAGE: &str = "usage: bench [--before SHARED_OBJECT] | --tool PROGRAM FOLDER";
 
 /// The build that is linked, and an earlier one where the caller names it.
 pub struct Builds {

@@ -2,7 +2,8 @@
 //! where one is given.
 //!
 //! Run it with `cargo run --release -p bench`, or with `-- --before SHARED_OBJECT`. Each figure is a median; the sides
-//! take turns, and the output is cleared before each turn.
+//! take turns, and the output is cleared before each turn. With `-- --tool PROGRAM FOLDER` it times the command
+//! `korbishaf` instead, on files in that folder.
 
 mod builds;
 mod calls;
@@ -14,14 +15,22 @@ mod report;
 mod sample;
 mod table;
 mod timing;
+mod tool;
 
 use std::ffi::OsString;
+use std::path::Path;
 use std::process::ExitCode;
 
 use builds::Builds;
 
 fn main() -> ExitCode {
     let arguments: Vec<OsString> = std::env::args_os().skip(1).collect();
+    if let [option, program, folder] = arguments.as_slice()
+        && option == "--tool"
+    {
+        tool::compare(Path::new(program), Path::new(folder));
+        return ExitCode::SUCCESS;
+    }
     match Builds::asked_for(&arguments) {
         Ok(builds) => {
             compare(&builds);
