@@ -59,6 +59,20 @@ add() {
 holds "the header by itself as C" cc -std=c99 "${strict[@]}" -x c -fsyntax-only "$include/korbishaf.h"
 holds "release.c" cc -std=c99 "${strict[@]}" -I"$include" "$here/release.c" "$library" -o "$scratch/release"
 holds "interface.c" cc -std=c99 "${strict[@]}" -I"$include" "$here/interface.c" "$library" -o "$scratch/interface"
+# the lines of the README, with what they take for granted around them: a card's scan and its sheet
+{
+    printf '%s\n' '#include "korbishaf.h"' '#include <stdio.h>' '#include <stdlib.h>' 'int main(void) {' \
+        'static uint8_t file[4096], sheet[64];' \
+        'FILE *scan = fopen(CARD "/in.las", "rb"), *keep = fopen(CARD "/sheet.bin", "rb");' \
+        'if (!scan || !keep) return 1;' \
+        'uint64_t file_length = fread(file, 1, sizeof file, scan);' \
+        'uint64_t sheet_length = fread(sheet, 1, sizeof sheet, keep);'
+    sed -n '/^```c$/,/^```$/p' "$here/../../README.md" | sed '/^```/d'
+    printf '%s\n' 'printf("%d %d %d\n", (int)asked.number, (int)released.number, (int)released.length);' 'free(out); }'
+} >"$scratch/readme.c"
+holds "the lines of the README" cc -std=c99 "${strict[@]}" -I"$include" "-DCARD=\"$here/../../cards/yard\"" \
+    "$scratch/readme.c" "$library" -o "$scratch/readme"
+expect "a release by the lines of the README" "30 0 557" "$scratch/readme"
 line="check 0 points 2 system a system asked 30 247 released 0 247 points 1 records 0 max X 4023000000000000"
 expect "a release" "$line" "$scratch/release"
 # cargo's machine has a C compiler, since it links by it; one for C++ may be missing
