@@ -1,5 +1,5 @@
-//! How much memory the command takes: a release the file, the released file and at most 16 MiB, `show` and `report` the
-//! file and at most 16 MiB.
+//! How much memory the command takes: `release` and `verify` the file, the released file and at most 16 MiB, `show` and
+//! `report` the file and at most 16 MiB.
 
 mod common;
 
@@ -81,6 +81,17 @@ fn a_pipe_takes_no_more() {
         .unwrap();
     let output = child.wait_with_output().unwrap();
     assert_eq!((output.status.code(), output.stderr), (Some(0), vec![]));
+}
+
+/// One file at a time, however many there are; each differs from its release.
+#[test]
+fn verify_takes_the_two_files_and_little_more() {
+    let (scratch, both) = folder(2);
+    let words = "verify in.las in.las in.las sheet.txt";
+    let ran = Ran::of(within(&scratch, both + (16 << 20), words).output().unwrap());
+    assert_eq!((ran.status, ran.err.as_str()), (Some(1), ""));
+    let last = "3 files: 0 verified, 3 not verified, 0 not read\n";
+    assert!(ran.out.ends_with(last), "{}", ran.out);
 }
 
 /// A second thread sets nothing aside that counts: 150 MB, of which a reserve of 64 MiB would be left for it.

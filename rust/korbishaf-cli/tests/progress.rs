@@ -9,34 +9,69 @@ use compare::spec::FileSpec;
 use std::fs;
 use std::io::{Read, Write};
 use std::os::unix::process::ExitStatusExt;
-use std::process::{Command, Stdio};
-use std::thread::{self, sleep};
-use std::time::Duration;
+use std::process::{Child, Command, Stdio};
+use std::sync::{Arc, Mutex};
+use std::thread::{self, JoinHandle, sleep};
+use std::time::{Duration, Instant};
 
-/// Runs a release with a terminal as its standard error, and gives what the terminal gets. The file comes through
-/// standard input, with a pause in the middle that is long enough for a bar.
-fn shown(command: &mut Command, file: &[u8]) -> String {
-    let (mut seen, written) = system::terminal();
-    command
-        .stdin(Stdio::piped())
-        .stdout(Stdio::null())
-        .stderr(written);
-    let mut child = command.spawn().unwrap();
-    // the terminal ends for the reader only when nobody can write to it any more
-    command.stderr(Stdio::null());
-    let reader = thread::spawn(move || {
-        let mut text = Vec::new();
-        let _ = seen.read_to_end(&mut text);
-        String::from_utf8(text).unwrap()
-    });
-    let mut input = child.stdin.take().unwrap();
-    let (first, second) = file.split_at(file.len() / 2);
-    input.write_all(first).unwrap();
-    sleep(Duration::from_millis(500));
-    input.write_all(second).unwrap();
-    drop(input);
-    assert!(child.wait().unwrap().success());
-    reader.join().unwrap()
+/// A release whose standard error is a terminal. Its file comes through standard input, of which it has got the half.
+struct OnTerminal {
+    child: Child,
+    seen: Arc<Mutex<Vec<u8>>>,
+    reader: JoinHandle<()>,
+    rest: Vec<u8>,
+}
+
+impl OnTerminal {
+    fn start(command: &mut Command, file: &[u8]) -> Self {
+        let (mut terminal, written) = system::terminal();
+        command
+            .stdin(Stdio::piped())
+            .stdout(Stdio::null())
+            .stderr(written);
+        let mut child = command.spawn().unwrap();
+        // the terminal ends for the reader only when nobody can write to it any more
+        command.stderr(Stdio::null());
+        let seen = Arc::new(Mutex::new(Vec::new()));
+        let all = Arc::clone(&seen);
+        let reader = thread::spawn(move || {
+            let mut part = [0; 1000];
+            while let Ok(count @ 1..) = terminal.read(&mut part) {
+                all.lock().unwrap().extend(&part[..count]);
+            }
+        });
+        let (first, rest) = file.split_at(file.len() / 2);
+        child.stdin.as_mut().unwrap().write_all(first).unwrap();
+        OnTerminal {
+            child,
+            seen,
+            reader,
+            rest: rest.to_vec(),
+        }
+    }
+
+    /// Waits until the terminal shows what was read.
+    fn await_bar(&self) {
+        let end = Instant::now() + Duration::from_secs(60);
+        while !String::from_utf8_lossy(&self.seen.lock().unwrap()).contains(" kB ") {
+            assert!(Instant::now() < end, "there is no bar");
+            sleep(Duration::from_millis(5));
+        }
+    }
+
+    /// Gives the release the rest of its file, and gives all that the terminal has got in the end.
+    fn finish(mut self) -> String {
+        let mut input = self.child.stdin.take().unwrap();
+        input.write_all(&self.rest).unwrap();
+        drop(input);
+        assert!(self.child.wait().unwrap().success());
+        self.text()
+    }
+
+    fn text(self) -> String {
+        self.reader.join().unwrap();
+        String::from_utf8(self.seen.lock().unwrap().clone()).unwrap()
+    }
 }
 
 fn folder() -> (Scratch, Vec<u8>) {
@@ -50,12 +85,13 @@ fn folder() -> (Scratch, Vec<u8>) {
 #[test]
 fn a_terminal_gets_a_bar_that_is_cleared_in_the_end() {
     let (scratch, file) = folder();
-    let text = shown(
-        &mut scratch.command(["release", "-", "sheet.txt", "out.las"]),
-        &file,
-    );
-    assert!(text.starts_with("\rreading   "), "{text:?}");
-    assert!(text.contains("/s"), "{text:?}");
+    let mut command = scratch.command(["release", "-", "sheet.txt", "out.las"]);
+    let run = OnTerminal::start(&mut command, &file);
+    run.await_bar();
+    let text = run.finish();
+    assert!(text.starts_with("\rreading"), "{text:?}");
+    assert!(text.contains("\rreading   10.1 kB  "), "{text:?}");
+    assert!(text.contains("B/s"), "{text:?}");
     assert!(text.ends_with("\r\x1B[K"), "{text:?}");
     assert_eq!(scratch.read("out.las").len(), 227 + 20 * 1000);
 }
@@ -63,34 +99,25 @@ fn a_terminal_gets_a_bar_that_is_cleared_in_the_end() {
 #[test]
 fn a_quiet_release_shows_nothing() {
     let (scratch, file) = folder();
-    let text = shown(
-        &mut scratch.command(["release", "--quiet", "-", "sheet.txt", "out.las"]),
-        &file,
-    );
-    assert_eq!(text, "");
+    let mut command = scratch.command(["release", "--quiet", "-", "sheet.txt", "out.las"]);
+    let run = OnTerminal::start(&mut command, &file);
+    // long enough for several bars
+    sleep(Duration::from_millis(500));
+    assert_eq!(run.finish(), "");
 }
 
 /// The bar does not stay where a signal ends the program.
 #[test]
 fn a_signal_clears_the_bar() {
     let (scratch, file) = folder();
-    let (mut seen, written) = system::terminal();
     let mut command = scratch.command(["release", "-", "sheet.txt", "out.las"]);
-    command
-        .stdin(Stdio::piped())
-        .stdout(Stdio::null())
-        .stderr(written);
-    let mut child = command.spawn().unwrap();
-    command.stderr(Stdio::null());
-    child.stdin.as_mut().unwrap().write_all(&file).unwrap();
-    sleep(Duration::from_millis(400));
-    system::send(&child, system::TERM);
-    assert_eq!(child.wait().unwrap().signal(), Some(system::TERM));
-    let mut text = Vec::new();
-    let _ = seen.read_to_end(&mut text);
-    let text = String::from_utf8(text).unwrap();
+    let mut run = OnTerminal::start(&mut command, &file);
+    run.await_bar();
+    system::send(&run.child, system::TERM);
+    assert_eq!(run.child.wait().unwrap().signal(), Some(system::TERM));
+    let text = run.text();
     assert!(
-        text.starts_with("\rreading   ") && text.ends_with("\r\x1B[K"),
+        text.starts_with("\rreading") && text.ends_with("\r\x1B[K"),
         "{text:?}"
     );
 }
