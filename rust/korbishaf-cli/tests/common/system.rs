@@ -4,7 +4,7 @@
 
 use std::ffi::{CStr, c_char, c_int};
 use std::fs::File;
-use std::os::fd::{AsRawFd, FromRawFd};
+use std::os::fd::FromRawFd;
 use std::process::Child;
 
 unsafe extern "C" {
@@ -30,26 +30,26 @@ pub fn send(child: &Child, number: c_int) {
 
 const O_RDWR_NOCTTY: c_int = 0o402;
 
-/// A terminal: the end that a person would look at, and the one that a program writes to.
-pub fn terminal() -> (File, File) {
+/// A terminal: the end that a person would look at, and the one that a program writes to. None where the machine gives
+/// none, which is said.
+pub fn terminal() -> Option<(File, File)> {
+    // SAFETY: this opens a file.
+    let opened = unsafe { posix_openpt(O_RDWR_NOCTTY) };
+    if opened < 0 {
+        eprintln!("left out, since this machine gives no terminal");
+        return None;
+    }
     let mut name: [c_char; 128] = [0; 128];
-    // SAFETY: each call gets the terminal that the first one opened; the name has room for 128 bytes and ends with 0.
+    // SAFETY: the terminal was opened just now; the name has room for 128 bytes and ends with 0.
     let (seen, path) = unsafe {
-        let seen = File::from_raw_fd(posix_openpt(O_RDWR_NOCTTY));
-        assert!(seen.as_raw_fd() >= 0);
-        assert_eq!(
-            (grantpt(seen.as_raw_fd()), unlockpt(seen.as_raw_fd())),
-            (0, 0)
-        );
-        assert_eq!(
-            ptsname_r(seen.as_raw_fd(), name.as_mut_ptr(), name.len()),
-            0
-        );
+        let seen = File::from_raw_fd(opened);
+        assert_eq!((grantpt(opened), unlockpt(opened)), (0, 0));
+        assert_eq!(ptsname_r(opened, name.as_mut_ptr(), name.len()), 0);
         (
             seen,
             CStr::from_ptr(name.as_ptr()).to_str().unwrap().to_string(),
         )
     };
     let written = File::options().read(true).write(true).open(path).unwrap();
-    (seen, written)
+    Some((seen, written))
 }
