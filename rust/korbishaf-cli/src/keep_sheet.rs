@@ -6,6 +6,9 @@ use crate::progress::Progress;
 use crate::refusal;
 use korbishaf::{Sheet, SheetError};
 
+/// What some editors put before a text in UTF-8, and a sheet's text may begin with.
+const BYTE_ORDER_MARK: &[u8] = b"\xEF\xBB\xBF";
+
 /// A keep sheet that was read. A text is turned into bytes; bytes are as they were, and not checked yet.
 #[derive(Debug)]
 pub struct KeepSheet {
@@ -80,6 +83,7 @@ impl KeepSheet {
 
 /// The numbers of a text's lines that are neither blank nor a comment, from 1: each is a line of the sheet.
 fn text_lines(text: &[u8]) -> Vec<usize> {
+    let text = text.strip_prefix(BYTE_ORDER_MARK).unwrap_or(text);
     let lines = (1..).zip(text.split(|&byte| byte == b'\n'));
     let filled = lines.filter(|(_, line)| {
         let line = line.strip_suffix(b"\r").unwrap_or(line);
@@ -121,7 +125,8 @@ mod tests {
             let mut rng = Rng::new(seed);
             for _ in 0..5000 {
                 let lines: Vec<&str> = (0..rng.below(9)).map(|_| rng.pick(&LINES)).collect();
-                let text = lines.join(rng.pick(&["\n", "\r\n"]));
+                let mark = rng.pick(&["", "\u{feff}"]);
+                let text = format!("{mark}{}", lines.join(rng.pick(&["\n", "\r\n"])));
                 let numbers = text_lines(text.as_bytes());
                 let Ok(sheet) = Sheet::from_text(&text) else {
                     continue;
