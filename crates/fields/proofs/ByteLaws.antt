@@ -125,6 +125,11 @@ part-short at w s h =
     let all : (n : ℕ) → length s ≤ at + n → take n (drop at s) ≡ drop at s = λ n k. take-all n (drop at s) (simp length-drop (omega arith)) in
     all (length s - at) (omega arith) ∙ sym (all w h)
 
+-- the bytes from a place on
+pub from-place : (s : Bytes) (at : ℕ) → part at (length s) s ≡ drop at s
+unfolding part
+from-place s at = take-all (length s) (drop at s) (simp length-drop (omega arith))
+
 -- a part of what stands behind a place
 pub part-drop : (n at w : ℕ) (s : Bytes) → part at w (drop n s) ≡ part (n + at) w s
 unfolding part
@@ -169,6 +174,13 @@ pub same-refl : (x : Bytes) → T (same x x)
 unfolding same
 same-refl [] = tt
 same-refl (x ∷ xs) = and-both (eqb x x) (same xs xs) (eqb-refl x) (same-refl xs)
+
+pub same-self : (x : Bytes) → same x x ≡ true
+same-self x = go (same x x) (same-refl x)
+  where
+    go : (b : Bool) → T b → b ≡ true
+    go true t = refl
+    go false t = absurd t
 
 -- what comparing says of a part p, by its answer r
 pub differs : (r : Bool) (x p y : Bytes) → r ≡ same x y → x ≡ p → r ≡ false → same p y ≡ false

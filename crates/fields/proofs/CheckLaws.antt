@@ -8,7 +8,7 @@ use mathlib.Core.List.{List, [], _∷_}
 use mathlib.Core.Logic.{_⊎_, inl, inr}
 use borrow.Author.Tests.{lt-ltb}
 use lib.ListN.{take, drop}
-use lib.Dec.{T, ltb, ltb→lt, nltb→le, not-T}
+use lib.Dec.{T, eqb, ltb, ltb→lt, nltb→le, not-T}
 use Rattle.fields.specs.Bytes.{Bytes, same}
 use Rattle.fields.specs.declared.Verdict.{Verdict}
 use Rattle.fields.specs.declared.Verdict.the-variants.{Passes, Fails}
@@ -142,3 +142,21 @@ in-parts zero cs = refl
 in-parts (suc k) [] = refl
 in-parts (suc k) (c ∷ cs) =
     then-fail (fails (c .1)) (c .0) (firstFailing (take k cs)) (firstFailing (drop k cs)) ∙ ap (failIf (fails (c .1)) (c .0)) (in-parts k cs)
+
+-- ---- a number that a table does not have is not given
+
+-- no check of a table has the number k
+unfoldable pub Without : ℕ → List Check → Type 0
+Without k [] = Unit {0}
+Without k (c ∷ cs) = (eqb (c .0) k ≡ false) × Without k cs
+
+failed-otherwise : (k : ℕ) (b : Bool) (m : ℕ) (v : Verdict) (n : ℕ) → eqb m k ≡ false → (v ≡ Fails n → eqb n k ≡ false)
+    → failIf b m v ≡ Fails n → eqb n k ≡ false
+unfolding failIf
+failed-otherwise k true m v n h later e = let same : m ≡ n = cc in rw same at h
+failed-otherwise k false m v n h later e = later e
+
+pub never-given : (k : ℕ) (cs : List Check) → Without k cs → (n : ℕ) → firstFailing cs ≡ Fails n → eqb n k ≡ false
+unfolding firstFailing Without
+never-given k [] h n e = let z : _≡_ {A = ℕ} 0 1 = cc in absurd (omega arith)
+never-given k (c ∷ cs) h n e = failed-otherwise k (fails (c .1)) (c .0) (firstFailing cs) n (h .0) (never-given k cs (h .1) n) e

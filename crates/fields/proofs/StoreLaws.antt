@@ -2,7 +2,7 @@
 -- Assumes nothing.
 use mathlib.Core.Path.{_≡_, refl, sym, ap, _∙_}
 use mathlib.Core.Logic.{_⊎_, inl, inr}
-use Prim.Native.Nat.{ℕ, zero, suc, _+_, _-_, _^_, _≤_, _<_, min}
+use Prim.Native.Nat.{ℕ, zero, suc, _+_, _-_, _≤_, _<_, min}
 use native.Mathlib.Nat.{eq-zero-or-pos}
 use native.Mathlib.Omega.{arith}
 use mathlib.Core.Bool.{cond}
@@ -10,9 +10,8 @@ use mathlib.Core.List.{[], _∷_, _++_, append-assoc, append-nil}
 use lib.ListN.{length, take, drop, set, length-set, length-take, length-drop, take-append-drop, drop-of-length-le}
 use lib.Dec.{leb}
 use borrow.Author.Tests.{le-leb}
-use lib.Seq.{take-all, sets, sets-eq, paste, length-take-le, take-at, drop-at, set-comm, set-out, drop-set-lt, drop-set-add, take-set-le}
-use Rattle.fields.specs.Bytes.{Bytes, part, num, bytesOf}
-use Rattle.fields.proofs.ByteLaws.{num-bytesOf, length-bytesOf}
+use lib.Seq.{take-all, sets, sets-eq, paste, length-take-le, take-at, drop-at, set-comm, set-out, drop-set-lt, drop-set-add, take-set-le, drop-drop}
+use Rattle.fields.specs.Bytes.{Bytes, part}
 
 -- one run behind another
 pub sets-append : (d : Bytes) (at : ℕ) (xs ys : Bytes) → sets d at (xs ++ ys) ≡ sets (sets d at xs) (at + length xs) ys
@@ -96,10 +95,6 @@ part-stored at w b s e h =
     let whole : sets s at b ≡ take at s ++ (b ++ drop (at + length b) s) = sets-eq b s at (rw e h) ∙ append-assoc (take at s) b (drop (at + length b) s) in
     rw (whole, drop-at (take at s) (b ++ drop (at + length b) s) at front) (take-at b (drop (at + length b) s) w e)
 
--- a number of any width, at any place that has room for it
-pub number-stored : (at w n : ℕ) (s : Bytes) → n < 256 ^ w → at + w ≤ length s → num (part at w (sets s at (bytesOf w n))) ≡ n
-number-stored at w n s small h = rw (part-stored at w (bytesOf w n) s (length-bytesOf w n) h) (num-bytesOf w n small)
-
 -- ---- what lies outside stays
 
 -- a part that ends before the place i, or begins behind it
@@ -125,3 +120,19 @@ pub part-outside : (a w at : ℕ) (b s : Bytes) → Apart a w at (length b) → 
 part-outside a w at [] s h = refl
 part-outside a w at (x ∷ xs) s h =
     part-outside a w (suc at) xs (set s at x) (rest-apart a w at (length xs) h) ∙ part-set a w at x s (first-apart a w at (length xs) h)
+
+-- what begins behind it
+pub drop-behind : (a at : ℕ) (b s : Bytes) → at + length b ≤ a → drop a (sets s at b) ≡ drop a s
+drop-behind a at [] s h = refl
+drop-behind a at (x ∷ xs) s h = drop-behind a (suc at) xs (set s at x) (omega arith) ∙ drop-set-lt a s at x (omega arith)
+
+-- ---- what stands there already
+
+pub sets-same : (at : ℕ) (b s : Bytes) → at + length b ≤ length s → part at (length b) s ≡ b → sets s at b ≡ s
+unfolding part
+sets-same at b s h e =
+    let behind : drop (at + length b) s ≡ drop (length b) (drop at s) = sym (drop-drop (length b) at s) in
+    sets-eq b s at h
+    ∙ append-assoc (take at s) b (drop (at + length b) s)
+    ∙ ap (λ (r : Bytes). take at s ++ r) (ap (λ (r : Bytes). r ++ drop (at + length b) s) (sym e) ∙ rw behind (take-append-drop (length b) (drop at s)))
+    ∙ take-append-drop at s

@@ -14,7 +14,7 @@ use Rattle.fields.specs.declared.Verdict.{Verdict}
 use Rattle.fields.specs.declared.Verdict.the-variants.{Passes, Fails}
 use Rattle.lasfile.specs.FileChecks.{fileVerdict}
 use Rattle.sheet.specs.Sheet.{sheetVerdict}
-use Rattle.publicpart.specs.Public.{publicOf}
+use Rattle.publicpart.specs.Public.{contents, publicOf}
 use Rattle.publicpart.specs.Render.{render}
 use Rattle.publicpart.specs.Release.{Outcome, refuseOr, shortOr, accepted, roomOr, release}
 use Rattle.publicpart.specs.declared.Answer.the-variants.{Released, Short, Refused}
@@ -40,6 +40,11 @@ module _ (sheet s out : Bytes) where
       )
       unfolding release refuseOr then roomOr shortOr accepted
       release-long h = rw (fileGood, sheetGood, le-ltb (length out) (length (render (publicOf sheet s))) h)
+
+-- of files that pass a release looks at the contents alone
+pub release-alike : (sheet s t out : Bytes) → fileVerdict s ≡ Passes → fileVerdict t ≡ Passes → contents s ≡ contents t → release sheet s out ≡ release sheet t out
+unfolding release publicOf
+release-alike sheet s t out e f same = rw (e, f, same)
 
 -- ---- an accepted release
 

@@ -14,6 +14,7 @@ use lasfile::header::HEADER_BLOCK;
 use lasfile::header::SCALING;
 use scaling::Bounds;
 use tally::Bins;
+use tally::in_header;
 
 // What a header says besides the carried fields.
 pub struct HeadTotals {
@@ -56,13 +57,7 @@ fn put_middle(source: &[u8], totals: HeadTotals, out: &mut [u8])
         2,
         header::record_length(source) as u64,
     );
-    let b = totals.bins;
-    put_numbers(
-        out,
-        header::POINT_COUNT,
-        4,
-        &[totals.points, b.first, b.second, b.third, b.fourth, b.fifth],
-    );
+    in_header::put_counts(out, totals.points, totals.bins);
 }
 
 // Writes a header at the front of `out`: the carried fields of the file `source`, and these totals. A source shorter
@@ -76,11 +71,5 @@ pub(crate) fn put_head(source: &[u8], totals: HeadTotals, out: &mut [u8])
     put_front(source, out);
     put_middle(source, totals, out);
     copying::copy(slices::part_at(source, SCALING, 48), out, SCALING);
-    let b = totals.bounds;
-    put_numbers(
-        out,
-        header::BOUNDS,
-        8,
-        &[b.max_x, b.min_x, b.max_y, b.min_y, b.max_z, b.min_z],
-    );
+    in_header::put_bounds(out, totals.bounds);
 }

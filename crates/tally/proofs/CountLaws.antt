@@ -105,7 +105,7 @@ counts-from f n t (p ∷ ps) c =
     rw e at (counts-from f (n + 1) (tallied f t p) ps (counts-with f t p n (n + 1) c (omega arith)))
 
 -- no count of a tally is above the number of its points
-counts-few : (f m : ℕ) (ps : List Bytes) → length ps ≤ m → CountsUpTo (tallyOf f ps) m
+pub counts-few : (f m : ℕ) (ps : List Bytes) → length ps ≤ m → CountsUpTo (tallyOf f ps) m
 unfolding tallyOf
 counts-few f m ps h = counts-up (foldl (tallied f) noTally ps) (0 + length ps) m (counts-from f 0 noTally ps (counts-none 0)) (omega arith)
 

@@ -1,6 +1,7 @@
 // Counts, bins and bounds of points.
 mod by_return;
 mod extremes;
+pub mod in_header;
 
 ghost use mathlib.Core.Path.{_≡_};
 ghost use mathlib.Core.List.{foldl};

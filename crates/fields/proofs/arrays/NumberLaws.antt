@@ -29,15 +29,18 @@ numbers-at w (n ∷ ns) (suc i) h =
     let e : suc i * w ≡ w + i * w = omega arith in
     rw e (part-behind w (i * w) w (bytesOf w n) (join (map (bytesOf w) ns)) (length-bytesOf w n) ∙ numbers-at w ns i (omega arith))
 
--- and read back, where bytes have them at a place
-pub numbers-back : (s : Bytes) (at w i : ℕ) (ns : List ℕ) → part at (length ns * w) s ≡ numbersBytes w ns → i < length ns → getD ns i 0 < 256 ^ w
-    → num (part (at + i * w) w s) ≡ getD ns i 0
-numbers-back s at w i ns e h small =
-    ap num (sym (part-part at (length ns * w) (i * w) w s (fits w i (length ns) h)) ∙ ap (part (i * w) w) e ∙ numbers-at w ns i h)
-    ∙ num-bytesOf w (getD ns i 0) small
+-- the bytes of each, where bytes have them at a place
+pub numbers-part : (s : Bytes) (at w i : ℕ) (ns : List ℕ) → part at (length ns * w) s ≡ numbersBytes w ns → i < length ns
+    → part (at + i * w) w s ≡ bytesOf w (getD ns i 0)
+numbers-part s at w i ns e h = sym (part-part at (length ns * w) (i * w) w s (fits w i (length ns) h)) ∙ ap (part (i * w) w) e ∙ numbers-at w ns i h
   where
     fits : (w i n : ℕ) → i < n → i * w + w ≤ n * w
     fits w i (suc n) h = omega (arith, mul-le-mul-right w (le-of-suc-le-suc h))
+
+-- and read back
+pub numbers-back : (s : Bytes) (at w i : ℕ) (ns : List ℕ) → part at (length ns * w) s ≡ numbersBytes w ns → i < length ns → getD ns i 0 < 256 ^ w
+    → num (part (at + i * w) w s) ≡ getD ns i 0
+numbers-back s at w i ns e h small = ap num (numbers-part s at w i ns e h) ∙ num-bytesOf w (getD ns i 0) small
 
 -- ---- writing them
 

@@ -6,7 +6,7 @@ use denote.Ref.{now}
 use lib.ListN.{length, drop}
 use Rattle.lasfile.specs.HeaderFields.{pointCount, recordLength}
 use Rattle.release.specs.Assembly.{keptIn, endOfPoints}
-use Rattle.release.proofs.vlrs.KeptLaws.{from-place}
+use Rattle.fields.proofs.ByteLaws.{from-place}
 use Rattle.release.proofs.assembly.PointLaws.{kept-in, points-end, end-most, asked-most, asked-counted}
 use borrow.Author.Needs.{needs}
 use Rattle.release.proofs.room_for.Statement.{statement}

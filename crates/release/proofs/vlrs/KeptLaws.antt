@@ -5,10 +5,10 @@ use mathlib.Core.Bool.{true, false}
 use Prim.Native.Nat.{ℕ, zero, suc, _+_, _-_, _*_, _^_, _≤_, _<_}
 use native.Mathlib.Omega.{arith}
 use mathlib.Core.List.{List, [], _∷_, _++_}
-use lib.ListN.{length, drop, length-drop}
-use lib.Seq.{sets, take-all}
+use lib.ListN.{length, drop}
+use lib.Seq.{sets}
 use Rattle.fields.specs.Lists.{kept, total}
-use Rattle.fields.specs.Bytes.{Bytes, AllBytes, part, join}
+use Rattle.fields.specs.Bytes.{Bytes, AllBytes, join}
 use Rattle.fields.proofs.ByteLaws.{drop-bytes}
 use Rattle.fields.proofs.ListLaws.{kept-here, kept-past}
 use Rattle.fields.proofs.StoreLaws.{sets-append}
@@ -20,11 +20,6 @@ use Rattle.publicpart.proofs.PublicLaws.{contents-records, public-records}
 use Rattle.release.specs.declared.vlrs.KeptRecords.{KeptRecords}
 use Rattle.release.specs.KeptRecords.{measured}
 use Rattle.release.proofs.vlrs.RecordPartLaws.{sound, length-low}
-
--- the bytes from a place on
-pub from-place : (s : Bytes) (at : ℕ) → part at (length s) s ≡ drop at s
-unfolding part
-from-place s at = take-all (length s) (drop at s) (simp length-drop (omega arith))
 
 -- a place or a sum that stays low, since a record takes less than 2 ^ 17 bytes and there are less than 2 ^ 32
 abbrev Low : ℕ → ℕ → Type 0

@@ -7,7 +7,7 @@ use lib.ListN.{length, take, drop, length-drop}
 use Rattle.fields.specs.Bytes.{Bytes}
 use Rattle.fields.proofs.StoreLaws.{tail-part}
 use Rattle.lasfile.specs.HeaderFields.{recordLength}
-use Rattle.release.proofs.vlrs.KeptLaws.{from-place}
+use Rattle.fields.proofs.ByteLaws.{from-place}
 use Rattle.release.specs.Assembly.{keptIn}
 use Rattle.release.specs.KeptPoints.{keptPoints}
 use Rattle.release.proofs.assembly.PointLaws.{kept-in, points-end, points-back}

@@ -2,7 +2,6 @@
 use mathlib.Core.Path.{sym, ap}
 use native.Mathlib.Omega.{arith}
 use lib.Seq.{sets}
-use Rattle.publicpart.specs.Bounds.{boundNumbers}
 use Rattle.release.proofs.head.HeadLaws.{no-head, head-stored}
 use borrow.Author.Needs.{needs}
 use Rattle.release.proofs.head.put_head.Statement.{statement}
@@ -12,10 +11,9 @@ returns : tie.Need-returns
 returns c = let a = c .before .before .before .args in sym (ap (sets (a .out .now) 0) (no-head (a .source .now) (a .totals) (omega arith)))
 
 returns-2 : tie.Need-returns-2
-unfolding boundNumbers
 returns-2 c =
     let bounds = c .before .before in
-    let scaling = bounds .before .before .before .before .before .before in
+    let scaling = bounds .before .before .before .before in
     let middle = scaling .before .before .before .before .before in
     let front = middle .before .before .before .before in
     let long = front .before .before in
@@ -24,9 +22,9 @@ returns-2 c =
     head-stored s (a .totals) (long .if1 .left) (a .out .now) _ _ _ _ _ (front .put-front .ensures (a .totals)) (middle .put-middle .ensures)
     (scaling .before .before .part-at .ensures)
     (scaling .copy .ensures)
-    (bounds .put-numbers .ensures)
+    (bounds .put-bounds .ensures)
 
 pub put-head-spec : {M : Type 1} → statement M
 put-head-spec =
     tie.close
-    (tie.spec returns (λ c κs. tt) (λ c κs. tt) (λ c κs. tt) (λ c κs. tt) (λ c. search needs) (λ c κs. tt) (λ c. search needs) returns-2)
+    (tie.spec returns (λ c κs. tt) (λ c κs. tt) (λ c κs. tt) (λ c κs. tt) (λ c κs. tt) (λ c. search needs) returns-2)

@@ -18,7 +18,7 @@ returns : tie.Need-returns
 unfolding headWith binNumbers
 returns c =
     let counts = c .before .before in
-    let length = counts .before .before .before .before .before .before in
+    let length = counts .before .before .before .before in
     let format = length .before .before .before .before .before in
     let places = format .before .before .before .before .before in
     let dates = places .before .before .before .before .before in
@@ -34,7 +34,7 @@ returns c =
     ▸ (format .put-number .ensures, ap (bytesOf 1) (format .before .format .ensures .0 ∙ sym (carried-format s)))
     ▸ (length .put-number2 .ensures, ap (bytesOf 2) (length .before .record-length .ensures .0 ∙ sym (carried-length s)))
     ▸ (refl, refl)
-    ▸ (counts .put-numbers3 .ensures ∙ stored-next (length .put-number2 .last .0) 107 4 (a .totals .points) (binNumbers (a .totals .bins)), refl)
+    ▸ (counts .put-counts .ensures ∙ stored-next (length .put-number2 .last .0) 107 4 (a .totals .points) (binNumbers (a .totals .bins)), refl)
     ▸ refl
     )
 
@@ -53,7 +53,6 @@ put-middle-spec =
     (λ c κs. tt)
     (λ c κs. tt)
     (λ c κs. tt)
-    (λ c. search needs)
     (λ c κs. tt)
     (λ c. search needs)
     returns)

@@ -8,7 +8,8 @@ use lib.Seq.{sets}
 use Rattle.fields.specs.Bytes.{Bytes, AllBytes}
 use Rattle.lasfile.specs.Records.{recordOf, writtenLength, recordBytes}
 use Rattle.publicpart.specs.Public.{sheetKeeps}
-use Rattle.release.proofs.vlrs.KeptLaws.{from-place, Copying, copying-begins, copying-kept, copying-past, copying-ends}
+use Rattle.fields.proofs.ByteLaws.{from-place}
+use Rattle.release.proofs.vlrs.KeptLaws.{Copying, copying-begins, copying-kept, copying-past, copying-ends}
 use Rattle.release.proofs.vlrs.copy_records.Statement.{statement}
 use Rattle.release.proofs.vlrs.copy_records.Tie as tie
 

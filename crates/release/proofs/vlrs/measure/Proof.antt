@@ -7,7 +7,8 @@ use native.Mathlib.Omega.{arith}
 use Rattle.fields.specs.Bytes.{Bytes, AllBytes}
 use Rattle.lasfile.specs.Records.{recordOf, writtenLength}
 use Rattle.publicpart.specs.Public.{sheetKeeps}
-use Rattle.release.proofs.vlrs.KeptLaws.{from-place, Measuring, measuring-begins, measuring-kept, measuring-past, measuring-ends}
+use Rattle.fields.proofs.ByteLaws.{from-place}
+use Rattle.release.proofs.vlrs.KeptLaws.{Measuring, measuring-begins, measuring-kept, measuring-past, measuring-ends}
 use Rattle.release.proofs.vlrs.measure.Statement.{statement}
 use Rattle.release.proofs.vlrs.measure.Tie as tie
 
