@@ -1,7 +1,7 @@
 -- What it means that a file passes the file checks, fact by fact.
 -- Assumes nothing.
 use mathlib.Core.Path.{_≡_}
-use Prim.Native.Nat.{_+_, _*_, _≤_}
+use Prim.Native.Nat.{ℕ, _+_, _*_, _≤_}
 use lib.ListN.{length}
 use lib.Dec.{T}
 use Rattle.fields.specs.Bytes.{Bytes, part}
@@ -10,7 +10,8 @@ use Rattle.scaling.specs.Scaling.{scalingOf, goodScaling}
 use Rattle.lasfile.specs.HeaderFields.{signature, version, headerBlock, headerSize, pointOffset, format, recordLength, pointCount}
 use Rattle.lasfile.specs.FileChecks.{recordsEnd}
 
-pub record Passed (s : Bytes) : Type 0 where
+-- 1 to 8 and 10 are clear, and there is room for a number of points
+pub record PassedWith (points : ℕ) (s : Bytes) : Type 0 where
   pub whole : headerBlock ≤ length s
   pub signed : part 0 4 s ≡ signature
   pub versioned : part 24 2 s ≡ version
@@ -21,5 +22,9 @@ pub record Passed (s : Bytes) : Type 0 where
   pub offsetLow : headerSize s ≤ pointOffset s
   pub offsetHigh : pointOffset s ≤ length s
   pub walked : recordsEnd s ≤ pointOffset s
-  pub pointed : pointOffset s + pointCount s * recordLength s ≤ length s
+  pub pointed : pointOffset s + points * recordLength s ≤ length s
   pub scaled : T (goodScaling (scalingOf s))
+
+-- with room for the points that it states
+abbrev pub Passed : Bytes → Type 0
+Passed s = PassedWith (pointCount s) s

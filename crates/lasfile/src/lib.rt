@@ -6,7 +6,7 @@ pub mod vlr;
 ghost use mathlib.Core.Path.{_≡_};
 ghost use lib.ListN.{take, drop};
 ghost use Rattle.fields.specs.Checks.{firstFailing};
-ghost use Rattle.lasfile.specs.FileChecks.{fileChecks, fileVerdict};
+ghost use Rattle.lasfile.specs.FileChecks.{fileChecks, fileVerdict, mendVerdict};
 use crate::header::HEADER_BLOCK;
 use fields::Verdict;
 use fields::refusals;
@@ -60,6 +60,16 @@ fn check_points(file: &[u8]) -> Verdict
     Verdict::Passes
 }
 
+// Check 10.
+fn check_scaling(file: &[u8]) -> Verdict
+    ensures { λ r. ⌜ r ≡ firstFailing (drop 9 (fileChecks (now (file .entry)))) ⌝ }
+{
+    if !scaling::Scaling::read(file).is_good() {
+        return Verdict::Fails(refusals::BAD_SCALING);
+    }
+    Verdict::Passes
+}
+
 // Checks 8 to 10. Counts and lengths are of 4 and 2 bytes, so that no sum and no product wraps.
 fn check_contents(file: &[u8]) -> Verdict
     ensures { λ r. ⌜ r ≡ firstFailing (drop 7 (fileChecks (now (file .entry)))) ⌝ }
@@ -75,10 +85,7 @@ fn check_contents(file: &[u8]) -> Verdict
     if file.len() < offset + points * length {
         return Verdict::Fails(refusals::POINTS_PAST_END);
     }
-    if !scaling::Scaling::read(file).is_good() {
-        return Verdict::Fails(refusals::BAD_SCALING);
-    }
-    Verdict::Passes
+    check_scaling(file)
 }
 
 // The first file check that fails.
@@ -89,5 +96,22 @@ pub fn check_file(file: &[u8]) -> Verdict
     match verdict {
         Verdict::Passes => check_contents(file),
         Verdict::Fails(_) => verdict,
+    }
+}
+
+// The first that fails of those that a file must pass to be mended: all but 9. Where 9 is the first of all, 10 is left.
+pub fn check_mendable(file: &[u8]) -> Verdict
+    ensures { λ r. ⌜ r ≡ mendVerdict (now (file .entry)) ⌝ }
+{
+    let first = check_file(file);
+    match first {
+        Verdict::Passes => first,
+        Verdict::Fails(number) => {
+            if number == refusals::POINTS_PAST_END {
+                check_scaling(file)
+            } else {
+                first
+            }
+        }
     }
 }

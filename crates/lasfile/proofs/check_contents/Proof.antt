@@ -1,13 +1,12 @@
 -- `lasfile::check_contents` meets its contract. Assumes nothing.
-use mathlib.Core.Path.{_≡_, sym, ap, _∙_, subst}
+use mathlib.Core.Path.{_≡_, sym, _∙_}
 use mathlib.Core.Bool.{true, false}
 use Prim.Native.Nat.{_+_, _*_, _≤_}
 use native.Mathlib.Omega.{arith}
 use borrow.Author.Tests.{leb-true, leb-false, not-true, not-false}
 use denote.Ref.{now}
 use lib.Dec.{T, leb}
-use Rattle.fields.proofs.CheckLaws.{first-fails, first-clear, all-clear}
-use Rattle.scaling.specs.Scaling.{scalingOf, goodScaling}
+use Rattle.fields.proofs.CheckLaws.{first-fails, first-clear}
 use Rattle.lasfile.proofs.Passed.{product-small}
 use Rattle.lasfile.specs.HeaderFields.{pointOffset, recordLength, pointCount}
 use Rattle.lasfile.specs.FileChecks.{recordsEnd}
@@ -28,9 +27,6 @@ points-end : (c : tie.After-point-count) → c .before .before .before .before .
     ≡ pointOffset (now (c .before .before .before .before .before .before .before .before .args .file)) + pointCount (now (c .before .before .before .before .before .before .before .before .args .file)) * recordLength (now (c .before .before .before .before .before .before .before .before .args .file))
 points-end c = rw (c .point-count .ensures .0, c .before .record-length .ensures .0, c .before .before .before .before .before .point-offset .ensures .0)
 
-good : (c : tie.After-is-good) → c .is-good .result ≡ goodScaling (scalingOf (now (c .before .before .before .before .before .before .before .before .before .before .before .args .file)))
-good c = c .is-good .ensures ∙ ap goodScaling (c .before .read .ensures)
-
 returns : tie.Need-returns
 returns c = sym (first-fails _ _ _ (leb-false _ _ (sym (ends (c .before)) ∙ not-true _ (c .if1 .taken))))
 
@@ -45,16 +41,8 @@ returns-2 c = sym (first-clear _ _ _ (walked (c .before .before .before)) ∙ fi
 
 returns-3 : tie.Need-returns-3
 returns-3 c =
-    sym (first-clear _ _ _ (walked (c .before .before .before .before .before .before))
-    ∙ first-clear _ _ _ (omega (arith, points-end (c .before .before .before .before)))
-    ∙ first-fails _ _ _ (sym (good (c .before)) ∙ not-true _ (c .if3 .taken)))
-
-returns-4 : tie.Need-returns-4
-returns-4 c =
-    sym (all-clear _ (
-      walked (c .before .before .before .before .before .before),
-      (omega (arith, points-end (c .before .before .before .before)), (subst T (sym (sym (good (c .before)) ∙ not-false _ (c .if3 .left))) tt, tt)),
-    ))
+    c .check-scaling .ensures
+    ∙ sym (first-clear _ _ _ (walked (c .before .before .before .before)) ∙ first-clear _ _ _ (omega (arith, points-end (c .before .before))))
 
 pub check-contents-spec : {M : Type 1} → statement M
 check-contents-spec =
@@ -71,6 +59,4 @@ check-contents-spec =
     add-if2
     returns-2
     (λ c κs. tt)
-    (λ c κs. tt)
-    returns-3
-    returns-4)
+    returns-3)

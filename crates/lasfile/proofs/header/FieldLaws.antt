@@ -52,3 +52,26 @@ module _ (s : Bytes) (n : ℕ) where
   pub count-written : part 107 4 s ≡ bytesOf 4 n → n < 256 ^ 4 → pointCount s ≡ n
   unfolding pointCount
   count-written = written 107 4
+
+-- ---- files whose bytes at a field's place are the same have the same number there
+
+module _ (s t : Bytes) where
+  pub size-same : part 94 2 s ≡ part 94 2 t → headerSize s ≡ headerSize t
+  unfolding headerSize
+  size-same = ap num
+
+  pub offset-same : part 96 4 s ≡ part 96 4 t → pointOffset s ≡ pointOffset t
+  unfolding pointOffset
+  offset-same = ap num
+
+  pub records-same : part 100 4 s ≡ part 100 4 t → recordCount s ≡ recordCount t
+  unfolding recordCount
+  records-same = ap num
+
+  pub format-same : part 104 1 s ≡ part 104 1 t → format s ≡ format t
+  unfolding format
+  format-same = ap num
+
+  pub length-same : part 105 2 s ≡ part 105 2 t → recordLength s ≡ recordLength t
+  unfolding recordLength
+  length-same = ap num

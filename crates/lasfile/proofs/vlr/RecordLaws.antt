@@ -69,6 +69,18 @@ walkEnd-mono lw zero n at s h = walk-grows lw n at s
 walkEnd-mono lw (suc m) zero at s h = absurd (not-suc-le-zero h)
 walkEnd-mono lw (suc m) (suc n) at s h = walkEnd-mono lw m n (at + sizeOf lw (drop at s)) s (omega arith)
 
+-- files that have the same bytes from a place on have the same records there
+module _ (lw : ℕ) (s t : Bytes) (place : ℕ) (same : (i : ℕ) → place ≤ i → drop i s ≡ drop i t) where
+  pub walkEnd-same : (n at : ℕ) → place ≤ at → walkEnd lw n at s ≡ walkEnd lw n at t
+  unfolding walkEnd
+  walkEnd-same zero at h = refl
+  walkEnd-same (suc n) at h = rw (same at h) (walkEnd-same n (at + sizeOf lw (drop at t)) (omega arith))
+
+  pub walk-same : (n at : ℕ) → place ≤ at → walk lw n at s ≡ walk lw n at t
+  unfolding walk places
+  walk-same zero at h = refl
+  walk-same (suc n) at h = rw (same at h) (ap (λ (r : List Record). recordOf lw (drop at t) ∷ r) (walk-same n (at + sizeOf lw (drop at t)) (omega arith)))
+
 module _ (lw : ℕ) (s : Bytes) (bytes : AllBytes s) where
   pub payload-length : (at : ℕ) → at + sizeOf lw (drop at s) ≤ length s
       → length (recordOf lw (drop at s) .payload) ≡ payloadLength lw (drop at s)
