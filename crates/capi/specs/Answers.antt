@@ -1,12 +1,19 @@
 -- Answers of the library as the numbers that another language is given. On a refusal every field but `number` is 0; 30
 -- also has the needed length.
 -- Assumes nothing.
+use Prim.Native.Nat.{ℕ}
+use mathlib.Core.Bool.{Bool}
+use mathlib.Core.List.{List, map}
+use mir.Val.{boolByte}
+use Rattle.fields.specs.Checks.{numberOf}
 use Rattle.publicpart.specs.declared.Answer.{Answer}
 use Rattle.publicpart.specs.declared.Answer.the-variants as answer
 use Rattle.sheet.specs.declared.answers.Kept.{Kept}
 use Rattle.sheet.specs.declared.answers.Kept.the-variants.{Yes, No, Refused}
+use Rattle.editor.specs.declared.mend.Mended.{Mended}
 use Rattle.capi.specs.declared.answers.«las_released».{«las_released»}
 use Rattle.capi.specs.declared.answers.«las_kept».{«las_kept»}
+use Rattle.capi.specs.declared.answers.«las_mended».{«las_mended»}
 
 -- the four numbers of a release: 0, file length, kept points, kept records
 unfoldable pub releasedNumbers : Answer → «las_released»
@@ -18,3 +25,11 @@ unfoldable pub keptNumbers : Kept → «las_kept»
 keptNumbers Yes = record { number = 0; kept = 1 }
 keptNumbers No = record { number = 0; kept = 0 }
 keptNumbers (Refused n) = record { number = n; kept = 0 }
+
+-- a mark is 1 for yes
+unfoldable pub markNumbers : List Bool → List ℕ
+markNumbers ms = map boolByte ms
+
+-- the verdict's number, and the twelve marks
+unfoldable pub mendedNumbers : Mended → «las_mended»
+mendedNumbers m = record { number = numberOf (m .verdict); marks = markNumbers (m .marks) }

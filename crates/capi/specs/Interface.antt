@@ -17,9 +17,11 @@ use Rattle.sheet.specs.Sheet.{sheetVerdict}
 use Rattle.sheet.specs.Keeping.{classKept, recordKept}
 use Rattle.geokeys.specs.GeoKeys.{lookup}
 use Rattle.publicpart.specs.Release.{release}
-use Rattle.capi.specs.Answers.{releasedNumbers, keptNumbers}
+use Rattle.editor.specs.Mend.{mend}
+use Rattle.capi.specs.Answers.{releasedNumbers, keptNumbers, mendedNumbers}
 use Rattle.capi.specs.declared.answers.«las_released».{«las_released»}
 use Rattle.capi.specs.declared.answers.«las_kept».{«las_kept»}
+use Rattle.capi.specs.declared.answers.«las_mended».{«las_mended»}
 use Rattle.capi.specs.RecordAnswers.{recordNumbers, geokeyNumbers}
 use Rattle.capi.specs.declared.vlr.«las_record».{«las_record»}
 use Rattle.capi.specs.declared.vlr.«las_geokey».{«las_geokey»}
@@ -29,7 +31,7 @@ use Rattle.capi.specs.HeaderAnswers.{headerNumbers}
 use Rattle.capi.specs.declared.header.«las_header».{«las_header»}
 
 unfoldable pub lasLevel : ℕ
-lasLevel = 0
+lasLevel = 1
 
 unfoldable pub lasCheckFile : Bytes → ℕ
 lasCheckFile file = numberOf (fileVerdict file)
@@ -69,3 +71,7 @@ lasGeokeyFind file key = geokeyNumbers (lookup file key)
 -- the numbers, and the output afterwards
 unfoldable pub lasRelease : Bytes → Bytes → Bytes → «las_released» × Bytes
 lasRelease file sheet out = let r = release sheet file out in (releasedNumbers (r .0), r .1)
+
+-- the numbers, and the file afterwards
+unfoldable pub lasMend : Bytes → «las_mended» × Bytes
+lasMend file = let m = mend file in (mendedNumbers (m .0), m .1)

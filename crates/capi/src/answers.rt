@@ -1,7 +1,8 @@
 // Answers of the library as structs of numbers with C's layout: the refusal's number first, 0 where it is accepted.
 ghost use mathlib.Core.Path.{_≡_};
 ghost use Rattle.fields.specs.Checks.{numberOf};
-ghost use Rattle.capi.specs.Answers.{releasedNumbers, keptNumbers};
+ghost use Rattle.capi.specs.Answers.{releasedNumbers, keptNumbers, markNumbers, mendedNumbers};
+use editor::mend;
 use fields::refusals;
 use sheet::answers;
 
@@ -17,6 +18,12 @@ pub struct las_released {
 pub struct las_kept {
     pub number: u64,
     pub kept: u64,
+}
+
+#[repr(C)]
+pub struct las_mended {
+    pub number: u64,
+    pub marks: [u64; 12],
 }
 
 // The number of a verdict.
@@ -72,4 +79,35 @@ pub(crate) fn kept_numbers(kept: answers::Kept) -> las_kept
         answers::Kept::No => las_kept { number: 0, kept: 0 },
         answers::Kept::Refused(number) => las_kept { number, kept: 0 },
     }
+}
+
+// A mark is 1 for yes.
+fn mark_numbers(m: [bool; 12]) -> [u64; 12]
+    ensures { λ r. ⌜ r ≡ markNumbers m ⌝ }
+{
+    [
+        m[0] as u64,
+        m[1] as u64,
+        m[2] as u64,
+        m[3] as u64,
+        m[4] as u64,
+        m[5] as u64,
+        m[6] as u64,
+        m[7] as u64,
+        m[8] as u64,
+        m[9] as u64,
+        m[10] as u64,
+        m[11] as u64,
+    ]
+}
+
+// The numbers of a mending.
+pub(crate) fn mended_numbers(answer: mend::Mended) -> las_mended
+    ensures { λ r. ⌜ r ≡ mendedNumbers answer ⌝ }
+{
+    let verdict = answer.verdict;
+    let given = answer.marks;
+    let number = number_of(verdict);
+    let marks = mark_numbers(given);
+    las_mended { number, marks }
 }

@@ -6,10 +6,12 @@ pub mod point;
 pub mod vlr;
 
 ghost use mathlib.Core.Path.{_≡_};
-ghost use Rattle.capi.specs.Interface.{lasLevel, lasCheckFile, lasCheckSheet, lasReadHeader, lasVlrStep, lasPointAt, lasDecode, lasEncode, lasCoordinate, lasClassKept, lasRecordKept, lasGeokeyFind, lasRelease};
+ghost use Rattle.capi.specs.Interface.{lasLevel, lasCheckFile, lasCheckSheet, lasReadHeader, lasVlrStep, lasPointAt, lasDecode, lasEncode, lasCoordinate, lasClassKept, lasRecordKept, lasGeokeyFind, lasRelease, lasMend};
 use crate::answers::kept_numbers;
 use crate::answers::las_kept;
+use crate::answers::las_mended;
 use crate::answers::las_released;
+use crate::answers::mended_numbers;
 use crate::answers::number_of;
 use crate::answers::released_numbers;
 use crate::header::header_numbers;
@@ -22,6 +24,7 @@ use crate::vlr::geokey_numbers;
 use crate::vlr::las_geokey;
 use crate::vlr::las_record;
 use crate::vlr::record_numbers;
+use editor::mend::mend;
 use geokeys::find;
 use lasfile::check_file;
 use points::decode;
@@ -35,12 +38,12 @@ use sheet::answers::class_kept;
 use sheet::answers::record_kept;
 use sheet::check_sheet;
 
-// The last change request that is in: 0 for the base.
+// The last change request that is in.
 #[no_mangle]
 pub extern "C" fn las_level() -> u64
     ensures { λ r. ⌜ r ≡ lasLevel ⌝ }
 {
-    0
+    1
 }
 
 #[no_mangle]
@@ -135,4 +138,12 @@ pub extern "C" fn las_release(file: &[u8], sheet: &[u8], out: &mut [u8]) -> las_
     ensures { λ r. ⌜ (r, now (out .exit)) ≡ lasRelease (now (file .entry)) (now (sheet .entry)) (now (out .entry)) ⌝ }
 {
     released_numbers(release(file, sheet, out))
+}
+
+// Changes the file only where it answers 0.
+#[no_mangle]
+pub extern "C" fn las_mend(file: &mut [u8]) -> las_mended
+    ensures { λ r. ⌜ (r, now (file .exit)) ≡ lasMend (now (file .entry)) ⌝ }
+{
+    mended_numbers(mend(file))
 }

@@ -7,17 +7,18 @@ use native.Mathlib.Omega.{arith}
 use mathlib.Core.Bool.{Bool, true, false}
 use mathlib.Core.List.{List, [], _∷_, _++_}
 use mathlib.Core.Option.{Option, none, some}
-use lib.ListN.{length}
+use lib.ListN.{length, replicate}
 use lib.Dec.{eqb, ltb}
+use Rattle.fields.specs.Lists.{kept, consIf}
 use Rattle.fields.specs.Bytes.{Bytes}
 use Rattle.fields.specs.Checks.{Check, _below_, not-so, fails, failIf, firstFailing, then, numberOf}
 use Rattle.fields.specs.declared.Verdict.{Verdict}
 use Rattle.fields.specs.declared.Verdict.the-variants.{Passes, Fails}
-use Rattle.fields.proofs.CheckLaws.{first-fails}
+use Rattle.fields.proofs.CheckLaws.{first-fails, Without, never-given}
 use Rattle.points.specs.Points as points
 use Rattle.points.specs.Encoding as encoding
 use Rattle.points.specs.declared.Point.{Point}
-use Rattle.lasfile.specs.FileChecks.{fileChecks, fileVerdict}
+use Rattle.lasfile.specs.FileChecks.{fileChecks, fileVerdict, mendChecks, mendVerdict}
 use Rattle.reader.specs.Header as header
 use Rattle.reader.specs.declared.header.Header.{Header}
 use Rattle.reader.specs.Steps.{stepChecks, recordIf, stepOf}
@@ -43,17 +44,17 @@ use Rattle.sheet.specs.declared.answers.Kept.the-variants as sheetKept
 use Rattle.fields.specs.Text.{cut}
 use Rattle.publicpart.specs.Public.{publicOf}
 use Rattle.publicpart.specs.Release.{Outcome, refuseOr, shortOr, accepted, roomOr, release}
-use Rattle.capi.specs.Answers.{releasedNumbers, keptNumbers}
+use Rattle.editor.specs.Mend.{mendBy, mend}
+use Rattle.capi.specs.Answers.{releasedNumbers, keptNumbers, markNumbers, mendedNumbers}
 use Rattle.capi.specs.RecordAnswers.{foundRecord, noRecord, recordNumbers, geokeyNumbers}
 use Rattle.capi.specs.PointAnswers.{foundPoint, noPoint, pointNumbers, decodedNumbers, givenPoint}
 use Rattle.capi.specs.HeaderAnswers.{foundHeader, noHeader, headerNumbers}
-use Rattle.capi.specs.Interface.{lasCheckFile, lasCheckSheet, lasReadHeader, lasVlrStep, lasPointAt, lasDecode, lasEncode, lasClassKept, lasRecordKept, lasGeokeyFind, lasRelease}
+use Rattle.capi.specs.Interface.{lasCheckFile, lasCheckSheet, lasReadHeader, lasVlrStep, lasPointAt, lasDecode, lasEncode, lasClassKept, lasRecordKept, lasGeokeyFind, lasRelease, lasMend}
 use Rattle.theorems.specs.Terms.{needed, refusal}
 use Rattle.theorems.specs.Tables.{ByTable, linesChecks, sheetChecks, isSome, chosen, valueChecks, parameterChecks, entryTable, keyTable, directoryTable, lookupChecks, releaseChecks}
 use Rattle.theorems.specs.Demand1.{NothingChanged, ZerosBeside, EachNumber, Demand1}
 use Rattle.theorems.specs.ZeroWhereAccepted.{isReleased, isZero}
-use Rattle.theorems.proofs.capi.NumberLaws.{Without}
-use Rattle.theorems.proofs.TableLaws.{joined, without-both, table-laws, never-given, follows}
+use Rattle.theorems.proofs.TableLaws.{joined, without-both, table-laws, follows}
 
 -- ---- a refusal changes nothing lent
 
@@ -86,14 +87,26 @@ numbered-out (Fails c) short? m out o n h e = refl
 numbered-out Passes true m out o n h e = refl
 numbered-out Passes false m out o n h e = absurd (omega arith)
 
+mended-not : (v : Verdict) (s : Bytes) (n : ℕ) → mendBy v s .0 .verdict ≡ Fails n → mendBy v s .1 ≡ s
+unfolding mendBy
+mended-not Passes s n e = let z : _≡_ {A = ℕ} 0 1 = cc in absurd (omega arith)
+mended-not (Fails m) s n e = refl
+
+mended-numbered : (v : Verdict) (s : Bytes) (n : ℕ) → mendedNumbers (mendBy v s .0) .number ≡ suc n → mendBy v s .1 ≡ s
+unfolding mendBy mendedNumbers numberOf
+mended-numbered Passes s n e = absurd (omega arith)
+mended-numbered (Fails m) s n e = refl
+
 nothing-changed : NothingChanged
-unfolding encoding.encoded release roomOr accepted isReleased lasEncode lasRelease releasedNumbers
+unfolding encoding.encoded release roomOr accepted mend isReleased lasEncode lasRelease lasMend releasedNumbers
 nothing-changed =
     record {
       encode = λ format len q room n e. stored-not _ _ room n e;
       release = λ sheet file out e. not-released _ _ _ out (accepted (publicOf sheet file) (length out)) refl e;
+      mend = λ file n e. mended-not (mendVerdict file) file n e;
       las-encode = λ format len p room n e. stored-numbered _ _ room _ e;
       las-release = λ file sheet out n e. numbered-out _ _ _ out (accepted (publicOf sheet file) (length out)) _ refl e;
+      las-mend = λ file n e. mended-numbered (mendVerdict file) file n e;
     }
 
 -- ---- an answer that a verdict decides has its number
@@ -129,6 +142,11 @@ unfolding keptUnder keptNumbers numberOf
 kept-number Passes true = refl
 kept-number Passes false = refl
 kept-number (Fails n) kept = refl
+
+mended-number : (v : Verdict) (s : Bytes) → mendedNumbers (mendBy v s .0) .number ≡ numberOf v
+unfolding mendBy mendedNumbers
+mended-number Passes s = refl
+mended-number (Fails n) s = refl
 
 -- ---- the file
 
@@ -380,8 +398,14 @@ release-zeros (Fails c) short? m out o n h other e = rw (← e, other c refl)
 release-zeros Passes true m out o n h other e = rw (← e)
 release-zeros Passes false m out o n h other e = absurd (omega arith)
 
+mend-zeros : (v : Verdict) (s : Bytes) (n : ℕ) → mendedNumbers (mendBy v s .0) .number ≡ suc n
+    → mendedNumbers (mendBy v s .0) ≡ record { number = suc n; marks = replicate 12 0 }
+unfolding mendBy mendedNumbers markNumbers numberOf
+mend-zeros Passes s n e = absurd (omega arith)
+mend-zeros (Fails m) s n e = λ i. record { number = e i; marks = replicate 12 0 }
+
 zeros-beside : ZerosBeside
-unfolding lasReadHeader lasVlrStep lasPointAt lasDecode lasClassKept lasRecordKept lasGeokeyFind lasRelease release roomOr
+unfolding lasReadHeader lasVlrStep lasPointAt lasDecode lasClassKept lasRecordKept lasGeokeyFind lasRelease lasMend release roomOr mend
 zeros-beside =
     record {
       read-header = λ file n e. header-zeros (header.headerRead file) n e;
@@ -395,13 +419,14 @@ zeros-beside =
           λ file sheet out n e.
           release-zeros (then (fileVerdict file) (sheetVerdict sheet)) (ltb (length out) (needed sheet file)) (needed sheet file) out
           (accepted (publicOf sheet file) (length out)) n (unfold accepted releasedNumbers in refl) (not-30 sheet file) e;
+      mend = λ file n e. mend-zeros (mendVerdict file) file n e;
     }
 
 -- ---- all of them
 
 each-number : EachNumber
-unfolding lasCheckFile lasCheckSheet lasReadHeader lasVlrStep lasPointAt lasDecode lasEncode lasClassKept lasRecordKept lasGeokeyFind lasRelease
-    header.headerRead stepOf pointAtOf points.decoded encoding.encoded points.decodeChecks encoding.encodeChecks releaseChecks Without isZero
+unfolding lasCheckFile lasCheckSheet lasReadHeader lasVlrStep lasPointAt lasDecode lasEncode lasClassKept lasRecordKept lasGeokeyFind lasRelease lasMend
+    mend mendVerdict kept consIf header.headerRead stepOf pointAtOf points.decoded encoding.encoded points.decodeChecks encoding.encodeChecks releaseChecks Without isZero
 each-number =
     record {
       check-file = λ file. follows (numberOf (fileVerdict file)) (fileChecks file) (file-above file) (ap numberOf (file-first file));
@@ -422,6 +447,9 @@ each-number =
           λ file sheet out.
           behind-file file (sheetChecks sheet ++ roomChecks sheet file out) _
           (without-both 0 (sheetChecks sheet) (roomChecks sheet file out) (sheet-above sheet) (refl, tt)) (released-number file sheet out);
+      mend =
+          λ file.
+          follows _ (mendChecks file) (refl, (refl, (refl, (refl, (refl, (refl, (refl, (refl, (refl, tt))))))))) (mended-number (mendVerdict file) file);
     }
 
 pub demand1 : Demand1

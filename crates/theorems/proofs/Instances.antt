@@ -1,19 +1,20 @@
 -- The theorems applied to the samples' files, sheets and points: what they ask for is computed, and the rest is their
 -- word.
 -- Assumes nothing.
-use mathlib.Core.Path.{_≡_, refl, ap, _∙_}
-use mathlib.Core.Logic.{inl, _↔_}
-use Prim.Native.Nat.{ℕ, zero, suc, _+_, _^_, _≤_, _<_}
+use mathlib.Core.Path.{_≡_, refl, sym, ap, _∙_}
+use mathlib.Core.Logic.{inl, inr, _↔_}
+use Prim.Native.Nat.{ℕ, zero, suc, _+_, _-_, _/_, _^_, _≤_, _<_, min}
 use native.Mathlib.Omega.{arith}
 use mathlib.Core.Bool.{Bool, true, false, _&&_}
 use mathlib.Core.List.{[], _∷_, _++_}
 use lib.Dec.{T, eqb, ltb, ltb→lt, lit≤, lit<}
-use lib.ListN.{length, drop}
+use lib.ListN.{length, drop, getD}
 use lib.IntN.{ℤ, pos, negsuc, _+ℤ_, _*ℤ_}
 use lib.Ieee.{binary64, ofInt, fin}
 use lib.Ieee.Fits.{and-l, and-r}
 use Rattle.fields.specs.Lists.{kept, total}
 use Rattle.fields.specs.Bytes.{Bytes, AllBytes, part, num, zeros}
+use Rattle.fields.specs.Checks.{numberOf}
 use Rattle.fields.specs.declared.Verdict.the-variants.{Passes, Fails}
 use Rattle.points.specs.Encoding.{InRange, large, encodeChecks, storedIf, encoded}
 use Rattle.points.specs.declared.Decoded.the-variants.{Fields}
@@ -22,20 +23,22 @@ use Rattle.points.specs.Points.{decoded}
 use Rattle.points.specs.Raw.{returnOf}
 use Rattle.scaling.specs.Scaling.{coordinateOf, scalingOf, goodScaling}
 use Rattle.lasfile.specs.Inputs.{inputChecks}
-use Rattle.lasfile.specs.HeaderFields.{headerSize, recordCount, format}
+use Rattle.lasfile.specs.HeaderFields.{headerSize, pointOffset, recordCount, format, recordLength, pointCount}
 use Rattle.lasfile.specs.Records.{places, writtenLength, SoundRecord}
 use Rattle.sheet.specs.Sheet.{sheetVerdict, lines}
 use Rattle.publicpart.specs.Public.{publicOf}
 use Rattle.publicpart.specs.declared.Answer.the-variants.{Released}
 use Rattle.publicpart.specs.Release.{release}
-use Rattle.capi.specs.Interface.{lasCheckFile, lasCheckSheet, lasReadHeader, lasVlrStep, lasPointAt, lasDecode, lasEncode, lasClassKept, lasRecordKept, lasGeokeyFind, lasRelease}
+use Rattle.capi.specs.Interface.{lasCheckFile, lasCheckSheet, lasReadHeader, lasVlrStep, lasPointAt, lasDecode, lasEncode, lasClassKept, lasRecordKept, lasGeokeyFind, lasRelease, lasMend}
 use Rattle.reader.specs.Header as header
 use Rattle.reader.specs.Header.{headerRead}
 use Rattle.reader.specs.Steps.{recordIf, stepOf}
 use Rattle.reader.specs.OnePoint.{pointIf, pointAtOf}
 use Rattle.sheet.specs.Keeping.{keptUnder}
 use Rattle.geokeys.specs.GeoKeys.{first, orLater, isProjection, projectionPlace, fromDirectory, answerIf, lookup}
-use Rattle.capi.specs.Answers.{keptNumbers}
+use Rattle.capi.specs.Answers.{keptNumbers, mendedNumbers}
+use Rattle.lasfile.specs.FileChecks.{fileVerdict, mendVerdict}
+use Rattle.editor.specs.Mend.{wholeRecords, mendedCount, mendedPoints, mended, changed, marks, mendBy, mend}
 use Rattle.capi.specs.HeaderAnswers.{headerNumbers, noHeader}
 use Rattle.capi.specs.RecordAnswers.{recordNumbers, noRecord, geokeyNumbers}
 use Rattle.capi.specs.PointAnswers.{pointNumbers, noPoint, decodedNumbers}
@@ -48,8 +51,9 @@ use Rattle.theorems.specs.Recognised.{OutputUnder, GivesItself}
 use Rattle.theorems.specs.ReleasedFile.{pointsKept}
 use Rattle.theorems.specs.BoundsOfKept.{Binned}
 use Rattle.theorems.specs.Demand1.{NothingChanged, ZerosBeside, EachNumber}
+use Rattle.theorems.specs.Mending.{Mends, InNoField}
 use Rattle.theorems.specs.Samples.{sheet3, sheet4, sheet5, sheet6, point7, used, half, ten, file9}
-use Rattle.theorems.specs.Instances.{other9, filled, output9, OfOutput9, fields7, numbers7, oneRecord, sheetA7, sheet64, NothingChangedMet, ZerosBesideMet, EachNumberMet, ExactlyMet, ShortMet, AgainMet, RecognisedMet, CompleteMet, NeverLongerMet, BoundsOfKeptMet, SheetsMet, FilesMet, VisitsMet, RoundTripsMet, CoordinatesMet, OwnBitsMet, long7, FirstBytesMet}
+use Rattle.theorems.specs.Instances.{other9, filled, output9, OfOutput9, fields7, numbers7, oneRecord, sheetA7, sheet64, NothingChangedMet, ZerosBesideMet, EachNumberMet, ExactlyMet, ShortMet, AgainMet, RecognisedMet, CompleteMet, NeverLongerMet, BoundsOfKeptMet, SheetsMet, FilesMet, VisitsMet, RoundTripsMet, CoordinatesMet, OwnBitsMet, long7, FirstBytesMet, cut9, pointless9, MendingMet}
 use Rattle.theorems.proofs.FirstBytes.{first-bytes}
 use Rattle.theorems.proofs.Samples.{computed}
 use Rattle.theorems.proofs.Demand1.{demand1}
@@ -59,6 +63,7 @@ use Rattle.theorems.proofs.ReleasedFile.{complete}
 use Rattle.theorems.proofs.NeverLonger.{never-longer}
 use Rattle.theorems.proofs.BoundsOfKept.{bounds-of-kept}
 use Rattle.theorems.proofs.Files.{files}
+use Rattle.theorems.proofs.Mending.{untouched, marked, right-about-points, mended-twice, keeps-release}
 use Rattle.theorems.proofs.sheet.SheetLaws.{lines-are}
 use Rattle.theorems.proofs.sheet.KeepingLaws.{kept-by-lines}
 use Rattle.theorems.proofs.reader.Visits.{stepping}
@@ -222,12 +227,15 @@ pub record ComputedNumbers : Type 0 where
   pub record-kept : lasRecordKept sheet6 [] 0 .number ≡ 20
   pub geokey-find : lasGeokeyFind file9 1024 .number ≡ 40
   pub accepts : lasRelease file9 sheet3 (used 255) .0 .number ≡ 0
+  pub mend : mend (zeros 227) .0 .verdict ≡ Fails 2
+  pub las-mend : lasMend (zeros 227) .0 .number ≡ 2
 
 computed-numbers : ComputedNumbers
 unfolding computed encodeChecks large storedIf encoded header.headerIf headerRead stepOf recordIf pointAtOf pointIf keptUnder
     projectionPlace first orLater isProjection fromDirectory answerIf lookup
     headerNumbers noHeader recordNumbers noRecord pointNumbers noPoint decodedNumbers keptNumbers geokeyNumbers isReleased
-    lasCheckFile lasCheckSheet lasReadHeader lasVlrStep lasPointAt lasDecode lasEncode lasClassKept lasRecordKept lasGeokeyFind lasRelease
+    lasCheckFile lasCheckSheet lasReadHeader lasVlrStep lasPointAt lasDecode lasEncode lasClassKept lasRecordKept lasGeokeyFind lasRelease lasMend
+    mendVerdict mendBy mend mendedNumbers
 computed-numbers =
     record {
       encode = refl;
@@ -244,6 +252,8 @@ computed-numbers =
       record-kept = refl;
       geokey-find = refl;
       accepts = refl;
+      mend = refl;
+      las-mend = refl;
     }
 
 pub nothing-changed-met : NothingChangedMet
@@ -254,6 +264,8 @@ nothing-changed-met =
       las-encode = changed .las-encode 0 20 numbers7 (used 19) 11 (computed-numbers .las-encode);
       release = changed .release sheet3 file9 (used 254) (computed-numbers .release);
       las-release = changed .las-release file9 sheet3 (used 254) 29 (computed-numbers .las-release);
+      mend = changed .mend (zeros 227) 2 (computed-numbers .mend);
+      las-mend = changed .las-mend (zeros 227) 1 (computed-numbers .las-mend);
     }
 
 pub zeros-beside-met : ZerosBesideMet
@@ -269,6 +281,7 @@ zeros-beside-met =
       record-kept = beside .record-kept sheet6 [] 0 19 (computed-numbers .record-kept);
       geokey-find = beside .geokey-find file9 1024 39 (computed-numbers .geokey-find);
       release = beside .release file9 sheet3 (used 254) 29 (computed-numbers .las-release) ∙ rw (needed9 .0);
+      mend = beside .mend (zeros 227) 1 (computed-numbers .las-mend);
     }
 
 pub each-number-met : EachNumberMet
@@ -287,8 +300,87 @@ each-number-met =
       record-kept = numbers .record-kept sheet6 [] 0 .refuses 19 .0 (computed-numbers .record-kept);
       geokey-find = numbers .geokey-find file9 1024 .refuses 39 .0 (computed-numbers .geokey-find);
       release-number = numbers .release file9 sheet3 (used 254) .refuses 29 .0 (computed-numbers .las-release);
+      mend-number = numbers .mend (zeros 227) .refuses 1 .0 (computed-numbers .las-mend);
       accepts = numbers .release file9 sheet3 (used 255) .accepts .0 (computed-numbers .accepts);
     }
+
+-- ---- mending
+
+mends9 : Mends cut9
+unfolding computed all-small mendVerdict mendBy mend
+mends9 = record { bytes = all-bytes cut9 tt; accepted = refl }
+
+pointless-mends9 : Mends pointless9
+unfolding computed all-small mendVerdict mendBy mend
+pointless-mends9 = record { bytes = all-bytes pointless9 tt; accepted = refl }
+
+-- what is computed of these files
+pub record ComputedMending : Type 0 where
+  pub refused : fileVerdict cut9 ≡ Fails 9
+  pub long : length cut9 ≡ 320
+  pub marked : getD (mend file9 .0 .marks) 1 false ≡ true
+  pub one : min (pointCount cut9) ((length cut9 - pointOffset cut9) / recordLength cut9) ≡ 1
+  pub none : min (pointCount pointless9) ((length pointless9 - pointOffset pointless9) / recordLength pointless9) ≡ 0
+  pub other : fileVerdict (zeros 227) ≡ Fails 2
+  pub bytes : AllBytes (zeros 227)
+
+computed-mending : ComputedMending
+unfolding computed all-small mendVerdict mendBy mend wholeRecords mendedCount mendedPoints mended changed marks
+computed-mending =
+    record { refused = refl; long = refl; marked = refl; one = refl; none = refl; other = refl; bytes = all-bytes (zeros 227) tt }
+
+no-field131 : InNoField 131
+unfolding InNoField
+no-field131 = (
+  inr (lit≤ tt),
+  (
+    inr (lit≤ tt),
+    (
+      inr (lit≤ tt),
+      (
+        inr (lit≤ tt),
+        (
+          inr (lit≤ tt),
+          (
+            inr (lit≤ tt),
+            (inl (lit≤ tt), (inl (lit≤ tt), (inl (lit≤ tt), (inl (lit≤ tt), (inl (lit≤ tt), (inl (lit≤ tt), tt)))))),
+          ),
+        ),
+      ),
+    ),
+  ),
+)
+
+not-refused-9 : fileVerdict (zeros 227) ≡ Fails 9 → ⊥
+unfolding numberOf
+not-refused-9 e = let z : _≡_ {A = ℕ} 2 9 = ap numberOf (sym (computed-mending .other) ∙ e) in omega arith
+
+passing-not-9 : (s : Bytes) → fileVerdict s ≡ Passes → fileVerdict s ≡ Fails 9 → ⊥
+unfolding numberOf
+passing-not-9 s e f = let z : _≡_ {A = ℕ} 0 9 = ap numberOf (sym e ∙ f) in omega arith
+
+pub mending-met : MendingMet
+mending-met =
+    record {
+      refused = computed-mending .refused;
+      length-stays = untouched .length-stays cut9 ∙ computed-mending .long;
+      byte-stays = untouched .bytes-stay file9 131 no-field131;
+      marked = computed-mending .marked;
+      changed = marked .exactly file9 1 (lit< tt) .0 (computed-mending .marked);
+      passes = right-about-points .passes cut9 mends9;
+      counted = count9;
+      binned = right-about-points .binned cut9 mends9;
+      bounded = right-about-points .bounded cut9 mends9 (omega (arith, count9)) X;
+      no-points = right-about-points .no-points pointless9 pointless-mends9 (right-about-points .counted pointless9 pointless-mends9 ∙ computed-mending .none);
+      again = mended-twice .again cut9 mends9;
+      accepted = keeps-release .accepted file9 (good9 .passes);
+      contents-stay = keeps-release .contents-stay file9 good9;
+      release-stays = keeps-release .release-stays sheet3 file9 (filled 7) (good9 .bytes) (passing-not-9 file9 (good9 .passes));
+      refused-alike = keeps-release .release-stays sheet3 (zeros 227) (filled 7) (computed-mending .bytes) not-refused-9;
+    }
+  where
+    count9 : pointCount (mend cut9 .1) ≡ 1
+    count9 = right-about-points .counted cut9 mends9 ∙ computed-mending .one
 
 -- ---- sheets
 

@@ -6,8 +6,10 @@ pub mod NeverLonger
 pub mod Recognised
 pub mod ReleasedFile
 pub mod BoundsBack
+pub mod TotalsBack
 pub mod BoundsOfKept
 pub mod Files
+pub mod Mending
 pub mod FirstBytes
 pub mod Samples
 pub mod points

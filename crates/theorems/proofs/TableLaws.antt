@@ -5,15 +5,15 @@ use Prim.Native.Nat.{ℕ, suc}
 use native.Mathlib.Omega.{arith}
 use mathlib.Core.Bool.{Bool, true, false, not}
 use mathlib.Core.List.{List, [], _∷_, _++_}
-use lib.Dec.{T, eqb}
+use lib.Dec.{T}
 use Rattle.fields.specs.Checks.{Test, Clear, Check, fails, failIf, firstFailing, then, numberOf}
 use Rattle.fields.specs.declared.Verdict.{Verdict}
 use Rattle.fields.specs.declared.Verdict.the-variants.{Passes, Fails}
-use Rattle.fields.proofs.CheckLaws.{clear, unclear, none-fails, all-clear, gives}
+use Rattle.fields.proofs.CheckLaws.{clear, unclear, none-fails, all-clear, gives, Without}
 use Rattle.theorems.specs.Tables.{Given, ByTable}
 use Rattle.theorems.specs.Demand1.{TableLaws}
 use Rattle.theorems.specs.ZeroWhereAccepted.{isPassing, isZero}
-use Rattle.theorems.proofs.capi.NumberLaws.{Numbered, Without, first-numbered}
+use Rattle.theorems.proofs.capi.NumberLaws.{Numbered, first-numbered}
 
 -- ---- two tables, one behind the other
 
@@ -91,17 +91,6 @@ table-laws =
     }
 
 -- ---- a number that no check has
-
-failed-otherwise : (k : ℕ) (b : Bool) (m : ℕ) (v : Verdict) (n : ℕ) → eqb m k ≡ false → (v ≡ Fails n → eqb n k ≡ false)
-    → failIf b m v ≡ Fails n → eqb n k ≡ false
-unfolding failIf
-failed-otherwise k true m v n h later e = let same : m ≡ n = cc in rw same at h
-failed-otherwise k false m v n h later e = later e
-
-pub never-given : (k : ℕ) (cs : List Check) → Without k cs → (n : ℕ) → firstFailing cs ≡ Fails n → eqb n k ≡ false
-unfolding firstFailing Without
-never-given k [] h n e = let z : _≡_ {A = ℕ} 0 1 = cc in absurd (omega arith)
-never-given k (c ∷ cs) h n e = failed-otherwise k (fails (c .1)) (c .0) (firstFailing cs) n (h .0) (never-given k cs (h .1) n) e
 
 -- ---- a function's number
 

@@ -7,22 +7,24 @@ use mathlib.Core.Logic.{_↔_}
 use Prim.Native.Nat.{ℕ, suc}
 use mathlib.Core.Bool.{false}
 use mathlib.Core.List.{List, _++_}
+use lib.ListN.{replicate}
 use Rattle.fields.specs.Bytes.{Bytes}
 use Rattle.fields.specs.Checks.{Check, firstFailing, AllClear}
 use Rattle.fields.specs.declared.Verdict.the-variants.{Passes, Fails}
 use Rattle.points.specs.declared.Point.{Point}
 use Rattle.points.specs.Points.{decodeChecks}
 use Rattle.points.specs.Encoding.{encodeChecks, encoded}
-use Rattle.lasfile.specs.FileChecks.{fileChecks}
+use Rattle.lasfile.specs.FileChecks.{fileChecks, mendChecks}
 use Rattle.reader.specs.Steps.{stepChecks}
 use Rattle.reader.specs.OnePoint.{pointChecks}
 use Rattle.sheet.specs.Sheet.{sheetVerdict}
 use Rattle.publicpart.specs.Release.{release}
+use Rattle.editor.specs.Mend.{mend}
 use Rattle.capi.specs.HeaderAnswers.{noHeader}
 use Rattle.capi.specs.RecordAnswers.{noRecord}
 use Rattle.capi.specs.PointAnswers.{noPoint, givenPoint}
 use Rattle.capi.specs.declared.point.«las_point».{«las_point»}
-use Rattle.capi.specs.Interface.{lasCheckFile, lasCheckSheet, lasReadHeader, lasVlrStep, lasPointAt, lasDecode, lasEncode, lasClassKept, lasRecordKept, lasGeokeyFind, lasRelease}
+use Rattle.capi.specs.Interface.{lasCheckFile, lasCheckSheet, lasReadHeader, lasVlrStep, lasPointAt, lasDecode, lasEncode, lasClassKept, lasRecordKept, lasGeokeyFind, lasRelease, lasMend}
 use Rattle.theorems.specs.Terms.{needed, refusal}
 use Rattle.theorems.specs.Tables.{Given, ByTable, sheetChecks, lookupChecks, releaseChecks}
 use Rattle.theorems.specs.ZeroWhereAccepted.{isReleased}
@@ -35,12 +37,16 @@ pub record NothingChanged : Type 0 where
   -- the output of a release that is not accepted, 30 too
   pub release : (sheet file out : Bytes) → isReleased (release sheet file out .0) ≡ false
       → release sheet file out .1 ≡ out
+  -- the file of a mending that gives a number
+  pub mend : (file : Bytes) (n : ℕ) → mend file .0 .verdict ≡ Fails n → mend file .1 ≡ file
   -- the room of `las_encode`, where its number is not 0
   pub las-encode : (format len : ℕ) (p : «las_point») (room : Bytes) (n : ℕ)
       → lasEncode format len p room .0 ≡ suc n → lasEncode format len p room .1 ≡ room
   -- the output of `las_release`, where its number is not 0
   pub las-release : (file sheet out : Bytes) (n : ℕ)
       → lasRelease file sheet out .0 .number ≡ suc n → lasRelease file sheet out .1 ≡ out
+  -- the file of `las_mend`, where its number is not 0
+  pub las-mend : (file : Bytes) (n : ℕ) → lasMend file .0 .number ≡ suc n → lasMend file .1 ≡ file
 
 -- a refusal has zeros beside its number
 pub record ZerosBeside : Type 0 where
@@ -67,6 +73,9 @@ pub record ZerosBeside : Type 0 where
   -- where a release is refused, 30 with the needed length
   pub release : (file sheet out : Bytes) (n : ℕ) → lasRelease file sheet out .0 .number ≡ suc n
       → lasRelease file sheet out .0 ≡ refusal (suc n) (needed sheet file)
+  -- where a file is not mended, which marks nothing
+  pub mend : (file : Bytes) (n : ℕ) → lasMend file .0 .number ≡ suc n
+      → lasMend file .0 ≡ record { number = suc n; marks = replicate 12 0 }
 
 -- any table of checks
 pub record TableLaws : Type 0 where
@@ -104,6 +113,8 @@ pub record EachNumber : Type 0 where
       → ByTable (lasGeokeyFind file key .number) (fileChecks file ++ lookupChecks file key)
   -- 1 to 10, then 20 to 24, then 30
   pub release : (file sheet out : Bytes) → ByTable (lasRelease file sheet out .0 .number) (releaseChecks sheet file out)
+  -- 1 to 8, then 10
+  pub mend : (file : Bytes) → ByTable (lasMend file .0 .number) (mendChecks file)
 
 pub record Demand1 : Type 0 where
   -- a refusal changes nothing lent

@@ -5,21 +5,21 @@ use mathlib.Core.Path.{_≡_}
 use Prim.Native.Nat.{ℕ, _≤_}
 use mathlib.Core.List.{[], _∷_, _++_}
 use lib.Dec.{T}
-use lib.ListN.{length, drop, replicate, take}
+use lib.ListN.{length, drop, getD, replicate, take}
 use lib.IntN.{ℤ, pos, negsuc, _+ℤ_, _*ℤ_}
 use lib.Ieee.{Float, binary64, fin, le, ofInt}
 use lib.Ieee.Scale.{finite}
 use mathlib.Core.Bool.{true, false}
 use Rattle.fields.specs.Bytes.{Bytes, part, num, zeros, join}
 use Rattle.fields.specs.Checks.{AllClear}
-use Rattle.fields.specs.declared.Verdict.the-variants.{Passes}
+use Rattle.fields.specs.declared.Verdict.the-variants.{Passes, Fails}
 use Rattle.points.specs.declared.Point.{Point}
 use Rattle.points.specs.declared.Decoded.the-variants.{Fields}
 use Rattle.points.specs.Points.{pointOf, decodeChecks, decoded}
 use Rattle.points.specs.Encoding.{encodeChecks, encoded, blank}
 use Rattle.scaling.specs.Scaling.{coordinateOf, scalingOf}
 use Rattle.lasfile.specs.Inputs.{inputChecks}
-use Rattle.lasfile.specs.FileChecks.{fileChecks, fileVerdict}
+use Rattle.lasfile.specs.FileChecks.{fileChecks, fileVerdict, mendChecks}
 use Rattle.lasfile.specs.Passed.{Passed}
 use Rattle.lasfile.specs.Records.{Record, walk, walkEnd, recordsBytes}
 use Rattle.reader.specs.Steps.{stepChecks, recordPlaces, stepOf, visited}
@@ -27,14 +27,16 @@ use Rattle.reader.specs.declared.cursor.Step.the-variants.{Refused}
 use Rattle.reader.specs.OnePoint.{pointChecks}
 use Rattle.sheet.specs.Sheet.{kind, lowest, highest, userID, recordID, lines}
 use Rattle.sheet.specs.Keeping.{keepsClass, keepsPoint}
-use Rattle.publicpart.specs.Public.{publicOf}
+use Rattle.lasfile.specs.HeaderFields.{pointCount}
+use Rattle.publicpart.specs.Public.{contents, publicOf}
 use Rattle.publicpart.specs.Release.{release}
+use Rattle.editor.specs.Mend.{mend}
 use Rattle.capi.specs.Answers.{releasedNumbers}
 use Rattle.capi.specs.HeaderAnswers.{noHeader}
 use Rattle.capi.specs.RecordAnswers.{noRecord}
 use Rattle.capi.specs.PointAnswers.{noPoint, givenPoint}
 use Rattle.capi.specs.declared.point.«las_point».{«las_point»}
-use Rattle.capi.specs.Interface.{lasReadHeader, lasVlrStep, lasPointAt, lasDecode, lasEncode, lasClassKept, lasRecordKept, lasGeokeyFind, lasRelease}
+use Rattle.capi.specs.Interface.{lasReadHeader, lasVlrStep, lasPointAt, lasDecode, lasEncode, lasClassKept, lasRecordKept, lasGeokeyFind, lasRelease, lasMend}
 use Rattle.tally.specs.Tally.{noTally, tallied}
 use Rattle.theorems.specs.Terms.{refusal, OfOutput}
 use Rattle.theorems.specs.Tables.{Given, sheetChecks, lookupChecks, releaseChecks}
@@ -43,6 +45,7 @@ use Rattle.theorems.specs.Recognised.{OutputUnder, GivesItself}
 use Rattle.theorems.specs.ReleasedFile.{pointsKept, Holds, CountsKept}
 use Rattle.theorems.specs.Coordinates.{X, axisScale, axisOffset, Times, CarriedBits}
 use Rattle.theorems.specs.BoundsOfKept.{Bounded, binOf, Binned}
+use Rattle.theorems.specs.Mending.{fieldIn}
 use Rattle.theorems.specs.Sheets.{line, SomeLine}
 use Rattle.theorems.specs.Visits.{cursor}
 use Rattle.theorems.specs.Samples.{sheet3, sheet4, sheet5, sheet6, point7, half, ten, used, file9}
@@ -98,6 +101,10 @@ pub record NothingChangedMet : Type 0 where
   pub release : release sheet3 file9 (used 254) .1 ≡ used 254
   -- of `las_release` too
   pub las-release : lasRelease file9 sheet3 (used 254) .1 ≡ used 254
+  -- 227 zero bytes are not mended
+  pub mend : mend (zeros 227) .1 ≡ zeros 227
+  -- by `las_mend` neither
+  pub las-mend : lasMend (zeros 227) .1 ≡ zeros 227
 
 pub record ZerosBesideMet : Type 0 where
   -- 227 zero bytes have no header
@@ -116,6 +123,8 @@ pub record ZerosBesideMet : Type 0 where
   pub geokey-find : lasGeokeyFind file9 1024 ≡ record { number = 40; location = 0; value = 0; length = 0 }
   -- 254 bytes are too few for 255
   pub release : lasRelease file9 sheet3 (used 254) .0 ≡ record { number = 30; length = 255; points = 0; records = 0 }
+  -- 227 zero bytes are not mended, and nothing is marked
+  pub mend : lasMend (zeros 227) .0 ≡ record { number = 2; marks = replicate 12 0 }
 
 pub record EachNumberMet : Type 0 where
   -- the program's table gives 50 for a file of 40,000 bytes
@@ -142,6 +151,8 @@ pub record EachNumberMet : Type 0 where
   pub geokey-find : Given (fileChecks file9 ++ lookupChecks file9 1024) 40
   -- its release into 254 bytes gives 30
   pub release-number : Given (releaseChecks sheet3 file9 (used 254)) 30
+  -- 227 zero bytes to mend give 2
+  pub mend-number : Given (mendChecks (zeros 227)) 2
   -- into 255 bytes every check is clear
   pub accepts : AllClear (releaseChecks sheet3 file9 (used 255))
 
@@ -207,6 +218,48 @@ pub record BoundsOfKeptMet : Type 0 where
   pub binned : OfOutput9 (λ out. Binned file9 out (pointsKept sheet3 file9))
   -- the first bin is 1: the kept point has return number 1
   pub first-bin : OfOutput9 (λ out. binOf out 1 ≡ 1)
+
+-- ---- mending
+
+-- sample P9's file, cut one byte behind its first point
+abbrev pub cut9 : Bytes
+cut9 = take 320 file9
+
+-- and one byte before that point ends
+abbrev pub pointless9 : Bytes
+pointless9 = take 318 file9
+
+pub record MendingMet : Type 0 where
+  -- what is cut is refused with 9
+  pub refused : fileVerdict cut9 ≡ Fails 9
+  -- it keeps its length
+  pub length-stays : length (mend cut9 .1) ≡ 320
+  -- a byte behind the bins, the lowest of the X scale, stays
+  pub byte-stays : getD (mend file9 .1) 131 0 ≡ getD file9 131 0
+  -- the first bin of sample P9's file is marked
+  pub marked : getD (mend file9 .0 .marks) 1 false ≡ true
+  -- and so it was another
+  pub changed : fieldIn 1 (mend file9 .1) ≡ fieldIn 1 file9 → ⊥
+  -- what was cut passes now
+  pub passes : fileVerdict (mend cut9 .1) ≡ Passes
+  -- it has one point of the two
+  pub counted : pointCount (mend cut9 .1) ≡ 1
+  -- its bins count that one
+  pub binned : Binned (mend cut9 .1) (mend cut9 .1) (contents (mend cut9 .1) .points)
+  -- its bounds of X are that one's
+  pub bounded : Bounded (mend cut9 .1) (mend cut9 .1) (contents (mend cut9 .1) .points) X
+  -- without a whole point all bounds are +0.0
+  pub no-points : part 179 48 (mend pointless9 .1) ≡ zeros 48
+  -- mended again it stays
+  pub again : mend (mend cut9 .1) ≡ (record { verdict = Passes; marks = replicate 12 false }, mend cut9 .1)
+  -- sample P9's file can be mended
+  pub accepted : mend file9 .0 .verdict ≡ Passes
+  -- and keeps its contents
+  pub contents-stay : contents (mend file9 .1) ≡ contents file9
+  -- and its release
+  pub release-stays : release sheet3 (mend file9 .1) (filled 7) ≡ release sheet3 file9 (filled 7)
+  -- a file that is refused with another number is refused as before
+  pub refused-alike : release sheet3 (mend (zeros 227) .1) (filled 7) ≡ release sheet3 (zeros 227) (filled 7)
 
 -- ---- sheets, files, points, coordinates
 

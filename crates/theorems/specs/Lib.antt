@@ -8,6 +8,7 @@ pub mod Coordinates
 pub mod BoundsOfKept
 pub mod Sheets
 pub mod Files
+pub mod Mending
 pub mod Visits
 pub mod RoundTrips
 pub mod FirstBytes

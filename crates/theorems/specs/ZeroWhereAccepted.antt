@@ -28,9 +28,10 @@ use Rattle.geokeys.specs.declared.GeoKey.the-variants as key
 use Rattle.publicpart.specs.Release.{release}
 use Rattle.publicpart.specs.declared.Answer.{Answer}
 use Rattle.publicpart.specs.declared.Answer.the-variants as answer
+use Rattle.editor.specs.Mend.{mend}
 use Rattle.capi.specs.PointAnswers.{givenPoint}
 use Rattle.capi.specs.declared.point.«las_point».{«las_point»}
-use Rattle.capi.specs.Interface.{lasCheckFile, lasCheckSheet, lasReadHeader, lasVlrStep, lasPointAt, lasDecode, lasEncode, lasClassKept, lasRecordKept, lasGeokeyFind, lasRelease}
+use Rattle.capi.specs.Interface.{lasCheckFile, lasCheckSheet, lasReadHeader, lasVlrStep, lasPointAt, lasDecode, lasEncode, lasClassKept, lasRecordKept, lasGeokeyFind, lasRelease, lasMend}
 
 -- ---- which answers are accepted
 
@@ -99,3 +100,5 @@ pub record ZeroWhereAccepted : Type 0 where
   -- a release is accepted
   pub release : (file sheet out : Bytes)
       → isZero (lasRelease file sheet out .0 .number) ≡ isReleased (release sheet file out .0)
+  -- a file is mended
+  pub mend : (file : Bytes) → isZero (lasMend file .0 .number) ≡ isPassing (mend file .0 .verdict)

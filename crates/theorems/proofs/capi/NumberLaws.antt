@@ -4,23 +4,19 @@ use mathlib.Core.Path.{_≡_, refl}
 use Prim.Native.Nat.{ℕ, zero, suc}
 use mathlib.Core.Bool.{Bool, true, false}
 use mathlib.Core.List.{List, [], _∷_}
-use lib.Dec.{eqb}
+use Rattle.fields.specs.Lists.{kept, consIf}
 use Rattle.fields.specs.Bytes.{Bytes}
 use Rattle.fields.specs.Checks.{Check, failIf, firstFailing, fails, then, numberOf}
 use Rattle.fields.specs.declared.Verdict.{Verdict}
 use Rattle.fields.specs.declared.Verdict.the-variants.{Passes, Fails}
-use Rattle.lasfile.specs.FileChecks.{fileVerdict}
+use Rattle.fields.proofs.CheckLaws.{Without}
+use Rattle.lasfile.specs.FileChecks.{fileVerdict, mendVerdict}
 use Rattle.sheet.specs.Sheet.{lineChecks, linesVerdict, sheetVerdict, afterLine}
 use Rattle.theorems.specs.ZeroWhereAccepted.{isPassing, isZero}
 
 -- a verdict whose number is 0 exactly where it passes
 unfoldable pub Numbered : Verdict → Type 0
 Numbered v = isZero (numberOf v) ≡ isPassing v
-
--- no check of a table has the number k
-unfoldable pub Without : ℕ → List Check → Type 0
-Without k [] = Unit {0}
-Without k (c ∷ cs) = (eqb (c .0) k ≡ false) × Without k cs
 
 fail-numbered : (b : Bool) (n : ℕ) (later : Verdict) → isZero n ≡ false → Numbered later → Numbered (failIf b n later)
 unfolding Numbered failIf isPassing numberOf
@@ -40,6 +36,10 @@ then-numbered (Fails n) w hv hw = hv
 pub file-numbered : (file : Bytes) → Numbered (fileVerdict file)
 unfolding fileVerdict Without isZero
 file-numbered file = first-numbered _ (refl, (refl, (refl, (refl, (refl, (refl, (refl, (refl, (refl, (refl, tt))))))))))
+
+pub mend-numbered : (file : Bytes) → Numbered (mendVerdict file)
+unfolding mendVerdict kept consIf Without isZero
+mend-numbered file = first-numbered _ (refl, (refl, (refl, (refl, (refl, (refl, (refl, (refl, (refl, tt)))))))))
 
 line-numbered : (s : Bytes) → Numbered (firstFailing (lineChecks s))
 unfolding lineChecks Without isZero

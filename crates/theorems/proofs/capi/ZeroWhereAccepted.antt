@@ -9,10 +9,11 @@ use Rattle.fields.specs.Bytes.{Bytes}
 use Rattle.fields.specs.Checks.{numberOf, then}
 use Rattle.fields.specs.declared.Verdict.{Verdict}
 use Rattle.fields.specs.declared.Verdict.the-variants.{Passes, Fails}
+use Rattle.fields.proofs.CheckLaws.{Without}
 use Rattle.points.specs.Points as points
 use Rattle.points.specs.Encoding as encoding
 use Rattle.points.specs.declared.Point.{Point}
-use Rattle.lasfile.specs.FileChecks.{fileVerdict}
+use Rattle.lasfile.specs.FileChecks.{fileVerdict, mendVerdict}
 use Rattle.reader.specs.Header as header
 use Rattle.reader.specs.declared.header.Header.{Header}
 use Rattle.reader.specs.Steps.{stepChecks, recordIf, stepOf}
@@ -24,13 +25,14 @@ use Rattle.sheet.specs.Keeping.{keptUnder}
 use Rattle.geokeys.specs.GeoKeys.{directoryChecks, entryChecks, doubleChecks, textChecks, answerIf, either, doubleIn, textIn, inParameters, fromEntry, fromDirectory, lookup, locationOf, payloadAt, entryOf, projectionPlace}
 use Rattle.geokeys.specs.declared.GeoKey.{GeoKey}
 use Rattle.publicpart.specs.Release.{Outcome, refuseOr, shortOr, accepted, roomOr, release}
-use Rattle.capi.specs.Answers.{releasedNumbers, keptNumbers}
+use Rattle.editor.specs.Mend.{mendBy, mend}
+use Rattle.capi.specs.Answers.{releasedNumbers, keptNumbers, mendedNumbers}
 use Rattle.capi.specs.RecordAnswers.{foundRecord, noRecord, recordNumbers, geokeyNumbers}
 use Rattle.capi.specs.PointAnswers.{foundPoint, noPoint, pointNumbers, decodedNumbers}
 use Rattle.capi.specs.HeaderAnswers.{foundHeader, noHeader, headerNumbers}
-use Rattle.capi.specs.Interface.{lasCheckFile, lasCheckSheet, lasReadHeader, lasVlrStep, lasPointAt, lasDecode, lasEncode, lasClassKept, lasRecordKept, lasGeokeyFind, lasRelease}
+use Rattle.capi.specs.Interface.{lasCheckFile, lasCheckSheet, lasReadHeader, lasVlrStep, lasPointAt, lasDecode, lasEncode, lasClassKept, lasRecordKept, lasGeokeyFind, lasRelease, lasMend}
 use Rattle.theorems.specs.ZeroWhereAccepted.{isPassing, hasFields, hasRecord, hasPoint, isDecoded, isFound, isReleased, isZero, ZeroWhereAccepted}
-use Rattle.theorems.proofs.capi.NumberLaws.{Numbered, Without, first-numbered, then-numbered, file-numbered, sheet-numbered}
+use Rattle.theorems.proofs.capi.NumberLaws.{Numbered, first-numbered, then-numbered, file-numbered, mend-numbered, sheet-numbered}
 
 -- ---- an answer that a verdict decides
 
@@ -139,10 +141,15 @@ release-numbered sheet s out =
     (then-numbered (fileVerdict s) (sheetVerdict sheet) (file-numbered s) (sheet-numbered sheet))
     (short-or _ _ out _ refl)
 
+mend-by : (v : Verdict) (s : Bytes) → Numbered v → isZero (mendedNumbers (mendBy v s .0) .number) ≡ isPassing (mendBy v s .0 .verdict)
+unfolding mendBy mendedNumbers Numbered
+mend-by Passes s e = e
+mend-by (Fails n) s e = e
+
 -- ---- all of them
 
 pub zero-where-accepted : ZeroWhereAccepted
-unfolding lasCheckFile lasCheckSheet lasReadHeader lasVlrStep lasPointAt lasDecode lasEncode lasClassKept lasRecordKept lasGeokeyFind lasRelease
+unfolding lasCheckFile lasCheckSheet lasReadHeader lasVlrStep lasPointAt lasDecode lasEncode lasClassKept lasRecordKept lasGeokeyFind lasRelease lasMend mend
     header.headerRead stepOf pointAtOf points.decoded encoding.encoded points.decodeChecks encoding.encodeChecks Numbered NumberedKey NumberedOutcome Without isZero
 zero-where-accepted =
     record {
@@ -161,4 +168,5 @@ zero-where-accepted =
       record-kept = λ sheet user id. kept-if (sheetVerdict sheet) _ (sheet-numbered sheet);
       geokey-find = found;
       release = λ file sheet out. release-numbered sheet file out;
+      mend = λ file. mend-by (mendVerdict file) file (mend-numbered file);
     }

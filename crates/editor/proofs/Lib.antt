@@ -1,0 +1,2 @@
+pub mod MendLaws
+pub mod MendedFile

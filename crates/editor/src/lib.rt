@@ -1,0 +1,2 @@
+// Changes to a file in place.
+pub mod mend;
