@@ -118,6 +118,17 @@ pub struct las_kept {
     pub kept: u64,
 }
 
+/// What a mending answers.
+#[repr(C)]
+#[derive(Clone, Copy, Debug, Default, PartialEq, Eq)]
+pub struct las_mended {
+    /// 0, or why the file is not mended.
+    pub number: u64,
+    /// 1 for each field whose bytes changed, otherwise 0: number of points, points by return 1 to 5, max X, min X,
+    /// max Y, min Y, max Z, min Z.
+    pub marks: [u64; 12],
+}
+
 /// The fields of a header, as the file states them.
 #[repr(C)]
 #[derive(Clone, Copy, Debug, Default, PartialEq, Eq)]
@@ -234,6 +245,9 @@ unsafe extern "C" {
         out: *mut u8,
         out_length: u64,
     ) -> las_released;
+
+    /// Mends number of points, points by return and bounds in the file. Numbers: 1 to 8, 10.
+    pub fn las_mend(file: *mut u8, file_length: u64) -> las_mended;
 }
 
 #[cfg(test)]
@@ -256,6 +270,7 @@ mod tests {
         assert_eq!(size_of::<las_geokey>(), 32);
         assert_eq!(size_of::<las_kept>(), 16);
         assert_eq!(size_of::<las_header>(), 288);
+        assert_eq!(size_of::<las_mended>(), 104);
     }
 
     #[test]
@@ -266,6 +281,7 @@ mod tests {
         assert_eq!(align_of::<las_geokey>(), 8);
         assert_eq!(align_of::<las_kept>(), 8);
         assert_eq!(align_of::<las_header>(), 8);
+        assert_eq!(align_of::<las_mended>(), 8);
     }
 
     #[test]
@@ -278,6 +294,7 @@ mod tests {
             edge 51, scan_angle 52);
         lie_at!(las_geokey: number 0, location 8, value 16, length 24);
         lie_at!(las_kept: number 0, kept 8);
+        lie_at!(las_mended: number 0, marks 8);
         lie_at!(las_header: number 0, file_source_id 8, global_encoding 16, guid_1 24, guid_2 32, guid_3 40,
             guid_4 48, major 56, minor 64, system_length 72, software_length 80, day 88, year 96,
             header_size 104, point_offset 112, vlr_count 120, point_format 128, record_length 136,
