@@ -8,7 +8,7 @@ use crate::point::Point;
 use crate::refusal::Refusal;
 use crate::vlr::{Vlr, Vlrs};
 
-/// A file that passes the checks 1 to 10.
+/// A file that passes the checks 1 to 10, or would with a number of points that is cut to what fits.
 #[derive(Debug, Clone, Copy)]
 pub struct LasFile<'a> {
     bytes: &'a [u8],
@@ -18,18 +18,49 @@ pub struct LasFile<'a> {
 impl<'a> LasFile<'a> {
     /// Makes the file checks in the specification's order.
     pub fn open(bytes: &'a [u8]) -> Result<Self, Refusal> {
+        Self::with_fitting_records(bytes)?
+            .with_fitting_points()?
+            .with_sound_scaling()
+    }
+
+    /// Makes the file checks but 9: a number of points that is too large counts as that of the whole records that fit.
+    pub(crate) fn open_cut(bytes: &'a [u8]) -> Result<Self, Refusal> {
+        Self::with_fitting_records(bytes)?
+            .with_points_cut()
+            .with_sound_scaling()
+    }
+
+    /// The checks 1 to 8.
+    fn with_fitting_records(bytes: &'a [u8]) -> Result<Self, Refusal> {
         let header = Header::read(bytes)?;
         let file = Self { bytes, header };
         if !file.vlrs().all_fit() {
             return Err(Refusal::RecordPastPoints);
         }
-        if file.points_end() > bytes.len() as u64 {
+        Ok(file)
+    }
+
+    /// The check 9.
+    fn with_fitting_points(self) -> Result<Self, Refusal> {
+        if self.points_end() > self.bytes.len() as u64 {
             return Err(Refusal::PointsPastEnd);
         }
-        if !header.scaling.in_range() {
+        Ok(self)
+    }
+
+    fn with_points_cut(mut self) -> Self {
+        let room = self.bytes.len() - self.header.point_offset as usize;
+        let fitting = room / usize::from(self.header.record_length);
+        self.header.point_count = u64::from(self.header.point_count).min(fitting as u64) as u32;
+        self
+    }
+
+    /// The check 10.
+    fn with_sound_scaling(self) -> Result<Self, Refusal> {
+        if !self.header.scaling.in_range() {
             return Err(Refusal::BadScaling);
         }
-        Ok(file)
+        Ok(self)
     }
 
     /// The fields of the header.
@@ -125,6 +156,19 @@ mod tests {
     fn one_byte_less_loses_a_point() {
         let bytes = sample::p9_file();
         assert_eq!(check_file(&bytes[..346]), Err(Refusal::PointsPastEnd));
+    }
+
+    #[test]
+    fn a_cut_file_has_the_points_that_fit_and_no_more_than_it_states() {
+        let points = |bytes: &[u8]| LasFile::open_cut(bytes).map(|file| file.points().len());
+        let mut bytes = sample::p9_file();
+        assert_eq!(points(&bytes), Ok(2));
+        assert_eq!(points(&bytes[..346]), Ok(1));
+        assert_eq!(points(&bytes[..291]), Ok(0));
+        bytes.extend([0; 28]);
+        assert_eq!(points(&bytes), Ok(2));
+        bytes[107..111].fill(0xFF);
+        assert_eq!(points(&bytes), Ok(3));
     }
 
     #[test]

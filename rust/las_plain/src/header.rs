@@ -4,9 +4,13 @@ use crate::bytes::{cut, f64_at, put, u16_at, u32_at};
 use crate::format::PointFormat;
 use crate::refusal::Refusal;
 use crate::scaling::{Bounds, Scaling};
+use crate::tally::Tally;
 
 /// The size of a header without extra bytes.
 pub const HEADER_SIZE: u16 = 227;
+
+/// The bytes of a header without extra bytes.
+pub type Block = [u8; HEADER_SIZE as usize];
 
 /// The fields of a public header block.
 #[derive(Debug, Clone, Copy, PartialEq)]
@@ -46,7 +50,7 @@ impl<'a> Header<'a> {
 
     /// Reads the header of a whole file and makes the checks 1 to 7.
     pub(crate) fn read(file: &'a [u8]) -> Result<Self, Refusal> {
-        let block: &[u8; HEADER_SIZE as usize] = file.first_chunk().ok_or(Refusal::FileTooSmall)?;
+        let block: &Block = file.first_chunk().ok_or(Refusal::FileTooSmall)?;
         if !block.starts_with(b"LASF") {
             return Err(Refusal::NotLas);
         }
@@ -68,7 +72,7 @@ impl<'a> Header<'a> {
         Ok(Self::fields(block, format))
     }
 
-    fn fields(block: &'a [u8; HEADER_SIZE as usize], format: PointFormat) -> Self {
+    fn fields(block: &'a Block, format: PointFormat) -> Self {
         Self {
             file_source_id: u16_at(block, 4),
             global_encoding: u16_at(block, 6),
@@ -96,7 +100,7 @@ impl<'a> Header<'a> {
     }
 
     /// Writes the header over a block, texts padded with zeros.
-    pub(crate) fn write(&self, block: &mut [u8; HEADER_SIZE as usize]) {
+    pub(crate) fn write(&self, block: &mut Block) {
         block.fill(0);
         put(block, 0, b"LASF");
         put(block, 4, &self.file_source_id.to_le_bytes());
@@ -112,10 +116,6 @@ impl<'a> Header<'a> {
         put(block, 100, &self.record_count.to_le_bytes());
         put(block, 104, &[self.format.id()]);
         put(block, 105, &self.record_length.to_le_bytes());
-        put(block, 107, &self.point_count.to_le_bytes());
-        for (bin, count) in self.points_by_return.iter().enumerate() {
-            put(block, 111 + 4 * bin, &count.to_le_bytes());
-        }
         for axis in 0..3 {
             put(
                 block,
@@ -127,10 +127,37 @@ impl<'a> Header<'a> {
                 155 + 8 * axis,
                 &self.scaling.offset[axis].to_le_bytes(),
             );
+        }
+        self.write_tallied(block);
+    }
+
+    /// The same header with the counts and bounds of these points.
+    pub(crate) fn tallied(self, tally: &Tally) -> Self {
+        Self {
+            point_count: tally.points(),
+            points_by_return: tally.points_by_return(),
+            bounds: tally.bounds(&self.scaling),
+            ..self
+        }
+    }
+
+    /// Writes only what follows from the points: their number, the five bins, the six bounds.
+    pub(crate) fn write_tallied(&self, block: &mut Block) {
+        put(block, 107, &self.point_count.to_le_bytes());
+        for (bin, count) in self.points_by_return.iter().enumerate() {
+            put(block, 111 + 4 * bin, &count.to_le_bytes());
+        }
+        for axis in 0..3 {
             put(block, 179 + 16 * axis, &self.bounds.max[axis].to_le_bytes());
             put(block, 187 + 16 * axis, &self.bounds.min[axis].to_le_bytes());
         }
     }
+}
+
+/// The fields of [`Header::write_tallied`], twelve of them in the order of the header.
+pub(crate) fn tallied_fields(block: &Block) -> impl Iterator<Item = &[u8]> {
+    let counts = block[107..131].chunks_exact(4);
+    counts.chain(block[179..227].chunks_exact(8))
 }
 
 impl ProjectId {

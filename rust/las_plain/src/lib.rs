@@ -1,4 +1,4 @@
-//! An independent reader and releaser of LAS 1.2.
+//! An independent reader, releaser and mender of LAS 1.2.
 //!
 //! Written from the LAS 1.2 specification, the GeoKey pages and the requirements
 //! (docs/SPECIFICATION.md) alone. It shares nothing with the proved crates, so
@@ -7,6 +7,7 @@
 //! * [`LasFile`] is a file that passes the file checks; [`check_file`] only asks.
 //! * [`Sheet`] is a keep sheet that passes; [`check_sheet`] only asks.
 //! * [`release()`] writes what a sheet leaves of a file.
+//! * [`mend()`] sets right the counts and bounds of a header that lies.
 //! * [`Point`] is one point's fields, with [`decode`] and [`encode`].
 //!
 //! A [`Refusal`] says why something was not done and has the specification's number.
@@ -16,6 +17,7 @@ mod file;
 mod format;
 mod geokey;
 mod header;
+mod mend;
 mod point;
 mod refusal;
 mod release;
@@ -32,6 +34,7 @@ pub use file::{LasFile, check_file, read_header};
 pub use format::PointFormat;
 pub use geokey::GeoValue;
 pub use header::{Header, ProjectId};
+pub use mend::mend;
 pub use point::{Point, decode, encode};
 pub use refusal::Refusal;
 pub use release::{Released, release};

@@ -108,15 +108,11 @@ impl<'f, 's> Kept<'f, 's> {
     }
 
     fn header(&self, tally: &Tally) -> Header<'f> {
-        let source = self.file.header();
         Header {
             header_size: HEADER_SIZE,
             point_offset: self.point_offset() as u32,
             record_count: self.records.len() as u32,
-            point_count: tally.points(),
-            points_by_return: tally.points_by_return(),
-            bounds: tally.bounds(&source.scaling),
-            ..*source
+            ..self.file.header().tallied(tally)
         }
     }
 }

@@ -1,4 +1,4 @@
-//! Counts and extremes of the kept points.
+//! Counts and extremes of points.
 
 use crate::bytes::i32_at;
 use crate::point::RETURNS_PLACE;
