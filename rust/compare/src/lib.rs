@@ -5,10 +5,12 @@
 //! * [`compared::Compared`] calls both, demands equal answers and equal bytes,
 //!   and remembers which of the specification's numbers were reached.
 //! * [`spec`] builds valid files and sheets from a description; [`damage`]
-//!   changes single fields of them.
+//!   changes single fields of them; [`boundaries`] has files on both sides of each
+//!   file check.
 //! * [`lent::Lent`] lends bytes from the middle of a guarded buffer.
 
 pub mod answers;
+pub mod boundaries;
 pub mod compared;
 pub mod damage;
 pub mod lent;

@@ -1,6 +1,6 @@
 //! Whole files.
 
-use super::geokeys::random_geokeys;
+use super::geokeys::{projection, random_geokeys};
 use super::record::RecordSpec;
 use super::text::random_text;
 use crate::rng::Rng;
@@ -52,6 +52,18 @@ impl FileSpec {
             points: Vec::new(),
             trailing: Vec::new(),
         }
+    }
+
+    /// A sound file with one record, three points, and bytes after them.
+    pub fn common(format: u8) -> Self {
+        let mut rng = Rng::new(u64::from(format));
+        let mut spec = Self::bare(format);
+        spec.records = vec![projection(7, b"payload".as_slice())];
+        spec.points = (0..3)
+            .map(|_| random_point(&mut rng, spec.record_length))
+            .collect();
+        spec.trailing = rng.bytes(100);
+        spec
     }
 
     /// A sound file with anything in it that a sound file may have.
