@@ -12,6 +12,14 @@ pub struct Released {
     pub records: u64,
 }
 
+/// The answer of a mending.
+#[derive(Debug, Clone, Copy, PartialEq, Eq, Default)]
+pub struct Mended {
+    pub number: u64,
+    /// Number of points, points by return 1 to 5, max X, min X, max Y, min Y, max Z, min Z.
+    pub marks: [u64; 12],
+}
+
 /// The answer of one step of the walk over records.
 #[derive(Debug, Clone, Copy, PartialEq, Eq, Default)]
 pub struct Record {

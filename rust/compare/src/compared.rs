@@ -3,7 +3,7 @@
 use std::collections::{BTreeMap, BTreeSet};
 use std::fmt::Debug;
 
-use crate::answers::{GeoKey, Header, Kept, Point, Record, Released};
+use crate::answers::{GeoKey, Header, Kept, Mended, Point, Record, Released};
 use crate::lent::Lent;
 use crate::{ours, plain};
 
@@ -21,6 +21,7 @@ pub enum Function {
     RecordKept,
     GeoKeyFind,
     Release,
+    Mend,
 }
 
 impl Function {
@@ -37,6 +38,7 @@ impl Function {
             Self::CheckSheet | Self::ClassKept | Self::RecordKept => sheet.collect(),
             Self::GeoKeyFind => file.chain(40..=46).collect(),
             Self::Release => file.chain(sheet).chain([30]).collect(),
+            Self::Mend => file.filter(|&number| number != 9).collect(),
         };
         numbers.insert(0);
         numbers
@@ -212,6 +214,17 @@ impl Compared {
         self.untouched(&[&lent_file, &lent_sheet]);
         self.written(&lent_out, &out, answer.number);
         (answer, lent_out.content().to_vec())
+    }
+
+    /// Mends a copy of the file; gives the answer and what the copy holds then.
+    pub fn mend(&mut self, file: &[u8]) -> (Mended, Vec<u8>) {
+        let mut lent = Lent::new(file);
+        let answer = ours::mend(&mut lent);
+        let mut mended = file.to_vec();
+        let other = plain::mend(&mut mended);
+        self.agree(Function::Mend, answer.number, answer, other);
+        self.written(&lent, &mended, answer.number);
+        (answer, lent.content().to_vec())
     }
 
     fn agree<A: PartialEq + Debug>(&mut self, function: Function, number: u64, ours: A, plain: A) {

@@ -18,6 +18,21 @@ pub const VLR_COUNT: Field = Field::new("number of VLRs", 100, 4);
 pub const FORMAT: Field = Field::new("point format", 104, 1);
 pub const RECORD_LENGTH: Field = Field::new("record length", 105, 2);
 pub const POINT_COUNT: Field = Field::new("number of points", 107, 4);
+/// The fields that a mending sets, in the order of its marks.
+pub const MENDED: [Field; 12] = [
+    POINT_COUNT,
+    Field::new("points by return 1", 111, 4),
+    Field::new("points by return 2", 115, 4),
+    Field::new("points by return 3", 119, 4),
+    Field::new("points by return 4", 123, 4),
+    Field::new("points by return 5", 127, 4),
+    Field::new("max X", 179, 8),
+    Field::new("min X", 187, 8),
+    Field::new("max Y", 195, 8),
+    Field::new("min Y", 203, 8),
+    Field::new("max Z", 211, 8),
+    Field::new("min Z", 219, 8),
+];
 /// X, Y, Z scale, then X, Y, Z offset.
 pub const SCALING: [Field; 6] = [
     Field::new("X scale", 131, 8),

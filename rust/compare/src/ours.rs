@@ -2,7 +2,7 @@
 
 use korbishaf::sys;
 
-use crate::answers::{GeoKey, Header, Kept, Point, Record, Released};
+use crate::answers::{GeoKey, Header, Kept, Mended, Point, Record, Released};
 use crate::lent::Lent;
 
 // SAFETY, for every call below: each pointer comes with the length of the
@@ -128,9 +128,18 @@ pub fn release(file: &mut Lent, sheet: &mut Lent, out: &mut Lent) -> Released {
     })
 }
 
+pub fn mend(file: &mut Lent) -> Mended {
+    // SAFETY: see above.
+    let answer = unsafe { sys::las_mend(file.pointer(), file.length()) };
+    Mended {
+        number: answer.number,
+        marks: answer.marks,
+    }
+}
+
 /// The answers for empty slices that come as null pointers: check of the
-/// file, check of the sheet, decode, encode, release.
-pub fn on_null_pointers() -> [u64; 5] {
+/// file, check of the sheet, decode, encode, release, mend.
+pub fn on_null_pointers() -> [u64; 6] {
     let null = std::ptr::null();
     let null_mut = std::ptr::null_mut();
     let point = point_argument(&Point::default());
@@ -142,6 +151,7 @@ pub fn on_null_pointers() -> [u64; 5] {
             sys::las_decode(0, 20, null, 0).number,
             sys::las_encode(0, 20, point, null_mut, 0),
             sys::las_release(null, 0, null, 0, null_mut, 0).number,
+            sys::las_mend(null_mut, 0).number,
         ]
     }
 }

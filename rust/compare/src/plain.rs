@@ -2,7 +2,7 @@
 
 use las_plain::{GeoValue, LasFile, Refusal};
 
-use crate::answers::{GeoKey, Header, Kept, Point, Record, Released};
+use crate::answers::{GeoKey, Header, Kept, Mended, Point, Record, Released};
 
 /// The bits that a coordinate that is not a number has in the interface.
 const NAN_BITS: u64 = 0x7FF8_0000_0000_0000;
@@ -122,6 +122,19 @@ pub fn release(file: &[u8], sheet: &[u8], out: &mut [u8]) -> Released {
                 _ => 0,
             },
             ..Released::default()
+        },
+    }
+}
+
+pub fn mend(file: &mut [u8]) -> Mended {
+    match las_plain::mend(file) {
+        Ok(marks) => Mended {
+            number: 0,
+            marks: marks.map(u64::from),
+        },
+        Err(refusal) => Mended {
+            number: refusal.number(),
+            ..Mended::default()
         },
     }
 }
