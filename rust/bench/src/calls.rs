@@ -1,14 +1,13 @@
 //! Single calls: the file checks, and decoding and encoding of points.
 
 use std::hint::black_box;
-use std::time::Duration;
 
 use crate::builds::Builds;
 use crate::cases::COMMON;
+use crate::each;
 use crate::library::Library;
 use crate::sample::HEADER;
-use crate::table::Table;
-use crate::timing::{Side, medians, per_item, ratio, time};
+use crate::timing::{Side, medians, time};
 
 const ROUNDS: usize = 9;
 /// How often a file is checked in one turn.
@@ -23,10 +22,10 @@ pub fn compare(builds: &Builds) {
     assert_passes(builds, &file);
     assert_round_trips(builds, &points[..1_000 * LENGTH]);
     println!("single calls: medians in ns for each, and what ours takes of the others' times");
-    let table = start(builds.before.is_some());
+    let table = each::start(builds.before.is_some());
     let print = |name, count, sides: Vec<Side>| {
         let times = medians(ROUNDS, &sides, &mut points.to_vec());
-        table.row(&cells(name, count, &times));
+        table.row(&each::cells(name, count, &times));
     };
     let checks = sides(
         builds,
@@ -51,23 +50,6 @@ fn sides<'a>(
         sides.push(Box::new(move |room| time(|| library(build, room))));
     }
     sides
-}
-
-fn start(before: bool) -> Table {
-    let mut heads = vec!["              ", "  las_plain", "      ours"];
-    heads.extend(before.then_some("    before"));
-    heads.push("  /las_plain");
-    heads.extend(before.then_some("  /before"));
-    Table::start(&heads)
-}
-
-/// The times are those of las_plain, ours and, where there is one, an earlier build.
-fn cells(name: &str, count: usize, times: &[Duration]) -> Vec<String> {
-    let each = times.iter().map(|&time| per_item(time, count));
-    let others = [times[0]].into_iter().chain(times.get(2).copied());
-    let ratios = others.map(|other| ratio(times[1], other));
-    let figures = each.chain(ratios).map(|figure| format!("{figure:.2}"));
-    [name.to_string()].into_iter().chain(figures).collect()
 }
 
 fn check(build: &Library, file: &[u8]) {

@@ -1,11 +1,15 @@
 //! The time for each point as files grow, read off the rows of the releases.
 
 use crate::cases::{COMMON, Output, SIZES};
+use crate::each::figures;
 use crate::releases::Row;
 use crate::report::{sides, times};
 use crate::sample::Sample;
 use crate::table::Table;
 use crate::timing::per_item;
+
+/// The name of the row that says by how much the time for each point grows.
+pub const GROWTH: &str = "10^7 / 10^5";
 
 /// Prints the time for each point of files of all sizes, and by how much it grows.
 pub fn print(rows: &[Row], before: bool) {
@@ -15,10 +19,10 @@ pub fn print(rows: &[Row], before: bool) {
     let table = Table::start(&heads);
     let sizes = SIZES.map(|points| per_point(rows, points));
     for (points, each) in SIZES.iter().zip(&sizes) {
-        table.row(&cells(&points.to_string(), each));
+        table.row(&figures(&points.to_string(), each.iter().copied()));
     }
     let [_, small, _, large] = &sizes;
-    table.row(&cells("10^7 / 10^5", &ratios(large, small)));
+    table.row(&figures(GROWTH, ratios(large, small)));
 }
 
 /// Nanoseconds for each point, side by side, of the common case at this size.
@@ -30,12 +34,8 @@ fn per_point(rows: &[Row], points: usize) -> Vec<f64> {
     times(&row.medians).map(each).collect()
 }
 
-fn ratios(large: &[f64], small: &[f64]) -> Vec<f64> {
+/// How many times more each side takes.
+pub fn ratios(large: &[f64], small: &[f64]) -> Vec<f64> {
     let sides = large.iter().zip(small);
     sides.map(|(large, small)| large / small).collect()
-}
-
-fn cells(name: &str, figures: &[f64]) -> Vec<String> {
-    let figures = figures.iter().map(|figure| format!("{figure:.2}"));
-    [name.to_string()].into_iter().chain(figures).collect()
 }

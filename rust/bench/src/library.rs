@@ -2,12 +2,13 @@
 
 mod loading;
 
-use korbishaf::sys::{self, las_point, las_released};
+use korbishaf::sys::{self, las_mended, las_point, las_released};
 
 type Release = unsafe extern "C" fn(*const u8, u64, *const u8, u64, *mut u8, u64) -> las_released;
 type CheckFile = unsafe extern "C" fn(*const u8, u64) -> u64;
 type Decode = unsafe extern "C" fn(u8, u16, *const u8, u64) -> las_point;
 type Encode = unsafe extern "C" fn(u8, u16, las_point, *mut u8, u64) -> u64;
+type Mend = unsafe extern "C" fn(*mut u8, u64) -> las_mended;
 
 /// One build, by those of its functions that are timed. Every build is called through pointers, so that none is called
 /// in a faster way.
@@ -16,7 +17,12 @@ pub struct Library {
     check_file: CheckFile,
     decode: Decode,
     encode: Encode,
+    mender: Option<Mender>,
 }
+
+/// What mends files in a build.
+#[derive(Clone, Copy)]
+pub struct Mender(Mend);
 
 impl Library {
     /// The build that is linked into the program.
@@ -26,6 +32,7 @@ impl Library {
             check_file: sys::las_check_file,
             decode: sys::las_decode,
             encode: sys::las_encode,
+            mender: Some(Mender(sys::las_mend)),
         }
     }
 
@@ -59,5 +66,16 @@ impl Library {
         let to = room.as_mut_ptr();
         // SAFETY: as above.
         unsafe { (self.encode)(format, length as u16, point, to, length as u64) }
+    }
+    /// What mends files, but in a build that is older than mending.
+    pub fn mender(&self) -> Option<Mender> {
+        self.mender
+    }
+}
+
+impl Mender {
+    pub fn mend(self, file: &mut [u8]) -> las_mended {
+        // SAFETY: as above.
+        unsafe { (self.0)(file.as_mut_ptr(), file.len() as u64) }
     }
 }

@@ -2,14 +2,16 @@
 //! where one is given.
 //!
 //! Run it with `cargo run --release -p bench`, or with `-- --before SHARED_OBJECT`. Each figure is a median; the sides
-//! take turns, and the output is cleared before each turn. With `-- --tool PROGRAM FOLDER` it times the command
-//! `korbishaf` instead, on files in that folder.
+//! take turns, and before each turn the output is cleared, or a file that is mended gets its first header again. With
+//! `-- --tool PROGRAM FOLDER` it times the command `korbishaf` instead, on files in that folder.
 
 mod builds;
 mod calls;
 mod cases;
+mod each;
 mod growth;
 mod library;
+mod mendings;
 mod releases;
 mod report;
 mod sample;
@@ -54,6 +56,8 @@ fn compare(builds: &Builds) {
     }
     println!();
     growth::print(&rows, before);
+    println!();
+    mendings::compare(builds);
     println!();
     calls::compare(builds);
 }

@@ -4,7 +4,7 @@ use std::ffi::{CStr, CString, c_char, c_int, c_void};
 use std::mem::transmute;
 use std::path::Path;
 
-use super::{CheckFile, Decode, Encode, Library, Release};
+use super::{CheckFile, Decode, Encode, Library, Mend, Mender, Release};
 
 unsafe extern "C" {
     fn dlopen(path: *const c_char, mode: c_int) -> *mut c_void;
@@ -19,13 +19,15 @@ impl Library {
     pub fn load(path: &Path) -> Result<Self, String> {
         let object = open(path).map_err(|why| format!("{}: {why}", path.display()))?;
         let find = |name| function(object, name);
-        // SAFETY: the header of every build declares functions of these names with these types.
+        let mend = find(c"las_mend").ok();
+        // SAFETY: the header of every build declares functions of these names with these types, if it has them.
         unsafe {
             Ok(Self {
                 release: transmute::<*mut c_void, Release>(find(c"las_release")?),
                 check_file: transmute::<*mut c_void, CheckFile>(find(c"las_check_file")?),
                 decode: transmute::<*mut c_void, Decode>(find(c"las_decode")?),
                 encode: transmute::<*mut c_void, Encode>(find(c"las_encode")?),
+                mender: mend.map(|mend| Mender(transmute::<*mut c_void, Mend>(mend))),
             })
         }
     }
