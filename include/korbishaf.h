@@ -1,9 +1,10 @@
 /*
  * korbishaf.h: Korbishaf for C and C++.
  *
- * Korbishaf reads LAS 1.2 files (point formats 0 to 3) and releases samples of
- * them under a keep sheet. Link with libcapi.a, which `rt staticlib capi` writes
- * to target/staticlib, or with -lkorbishaf where `./install` has put it.
+ * Korbishaf reads LAS 1.2 files (point formats 0 to 3), mends their headers and
+ * releases samples of them under a keep sheet. Link with libcapi.a, which
+ * `rt staticlib capi` writes to target/staticlib, or with -lkorbishaf where
+ * `./install` has put it.
  *
  * Rules that hold for every function:
  *
@@ -11,11 +12,11 @@
  *   the length is 0 the pointer is not looked at and may be null; otherwise it
  *   points to that many bytes.
  * - Any bytes may be passed: nothing here panics or fails to return.
- * - `out` and `room` are lent to be written to and overlap no other argument.
- *   All else is only read.
+ * - `out` and `room` are lent to be written to and overlap no other argument,
+ *   and las_mend writes to its `file`. All else is only read.
  * - `number` is 0 for an answer and otherwise says why there is none (see the
  *   table). The first check that fails is the one that is given. On a refusal
- *   every field but `number` is 0, and a lent `out` or `room` is unchanged.
+ *   every field but `number` is 0, and all that is lent is unchanged.
  *   30 alone also gives the needed length, in `length`.
  * - Doubles pass as their 64 bits, so that every pattern survives. A result that
  *   is a NaN is 0x7ff8000000000000.
@@ -134,6 +135,13 @@ typedef struct {
     uint64_t kept; /* 0 or 1 */
 } las_kept;
 
+/* What a mending answers. */
+typedef struct {
+    uint64_t number;
+    uint64_t marks[12]; /* 1 for a field whose bytes changed, otherwise 0: number of points; points by return, 1 to 5;
+                           max X, min X, max Y, min Y, max Z, min Z */
+} las_mended;
+
 /* The fields of a header, as the file states them. */
 typedef struct {
     uint64_t number;
@@ -163,7 +171,7 @@ typedef struct {
 
 /* The functions. Any pointer may be null where the length after it is 0. */
 
-/* The number of the last change request that is in; 0 for the base. */
+/* The number of the last change request that is in: 0 for the base, 1 with las_mend. */
 uint64_t las_level(void);
 
 /* 0 if the file passes, otherwise 1 to 10. */
@@ -212,6 +220,13 @@ las_geokey las_geokey_find(const uint8_t *file, uint64_t file_length, uint16_t k
  * by 30. Numbers: 1 to 10, 20 to 24, 30. */
 las_released las_release(const uint8_t *file, uint64_t file_length, const uint8_t *sheet, uint64_t sheet_length,
                          uint8_t *out, uint64_t out_length);
+
+/* Mends what the header states of the points, in the file itself, and says which of the twelve fields changed. The
+ * number of points becomes the smaller of the stated number and the whole records that fit after the point offset.
+ * Points by return and bounds become those of these points; without points the bounds are +0.0. No other byte
+ * changes. The mended file passes, and mending it again changes nothing. Where the file passed before, its release
+ * under every sheet stays the same. Numbers: 1 to 8, 10. */
+las_mended las_mend(uint8_t *file, uint64_t file_length);
 
 #ifdef __cplusplus
 }
