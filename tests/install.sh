@@ -235,7 +235,7 @@ rust_program "Rust" '../a prefix/share/korbishaf/rust/korbishaf'
 
 if has nm; then
     declared=$(sed -n 's/^[a-z0-9_]* \(las_[a-z_]*\)(.*/\1/p' 'a prefix/include/korbishaf.h' | LC_ALL=C sort)
-    holds "the header: its functions" test "$(wc -l <<<"$declared")" -eq 13
+    holds "the header: its functions" test "$(wc -l <<<"$declared")" -eq 14
     exported=$(nm -D --defined-only 'a prefix/lib/libkorbishaf.so' | awk '{ print $3 }' | LC_ALL=C sort)
     holds "the shared object: its names" test "$exported" = "$declared"
 fi
@@ -432,8 +432,8 @@ proves() {
     holds "$1: what it proves" test "$(tr '\n' ' ' <calls)" = "$2 "
 }
 
-steps="${proving}0 of 11 crates"$'\n'"${proving}10 of 11 crates"$'\n'"${proving}11 of 11 crates"$'\n'"building the*"
-last="${proving}10 of 11 crates"$'\n'"${proving}11 of 11 crates"$'\n'"building the*"
+steps="${proving}0 of 12 crates"$'\n'"${proving}11 of 12 crates"$'\n'"${proving}12 of 12 crates"$'\n'"building the*"
+last="${proving}11 of 12 crates"$'\n'"${proving}12 of 12 crates"$'\n'"building the*"
 umask 077
 proves "from nothing" "check staticlib" "$steps"
 holds "from nothing: all may read" test -z "$(find faked ! -type l ! -perm -444)"

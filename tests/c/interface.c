@@ -2,23 +2,8 @@
  * more. Prints each thing that does not hold; its last line is 'N passed, M failed'. */
 #include "korbishaf.h"
 
-#include <stddef.h>
-#include <stdio.h>
-#include <string.h>
+#include "holds.h"
 
-static int passed, failed;
-
-static void holds(int does, const char *what)
-{
-    if (does) {
-        passed++;
-    } else {
-        printf("%s: does not hold\n", what);
-        failed++;
-    }
-}
-
-#define HOLDS(what) holds((what), #what)
 #define AT(type, field, place) HOLDS(offsetof(type, field) == (place))
 
 static void structs(void)
@@ -71,6 +56,10 @@ static void structs(void)
     AT(las_kept, number, 0);
     AT(las_kept, kept, 8);
 
+    HOLDS(sizeof(las_mended) == 104);
+    AT(las_mended, number, 0);
+    AT(las_mended, marks, 8);
+
     HOLDS(sizeof(las_header) == 288);
     AT(las_header, number, 0);
     AT(las_header, file_source_id, 8);
@@ -97,18 +86,6 @@ static void structs(void)
     AT(las_header, bounds, 240);
 }
 
-/* Whether an answer is a refusal with that number and zeros beside it. */
-static int refusal(const void *answer, size_t size, uint64_t number)
-{
-    const uint8_t *bytes = answer;
-    uint64_t first;
-    memcpy(&first, bytes, sizeof first);
-    for (size_t i = sizeof first; i < size; i++)
-        if (bytes[i] != 0)
-            return 0;
-    return first == number;
-}
-
 /* With no bytes at all, by null pointers. */
 static void nothing(void)
 {
@@ -116,6 +93,7 @@ static void nothing(void)
     las_record record = las_vlr_step(NULL, 0, 0, 227);
     las_geokey geokey = las_geokey_find(NULL, 0, 1024);
     las_released released = las_release(NULL, 0, NULL, 0, NULL, 0);
+    las_mended mended = las_mend(NULL, 0);
     las_kept class_kept = las_class_kept(NULL, 0, 2);
     las_kept record_kept = las_record_kept(NULL, 0, NULL, 0, 7);
     las_point point;
@@ -126,6 +104,7 @@ static void nothing(void)
     HOLDS(refusal(&record, sizeof record, 1));
     HOLDS(refusal(&geokey, sizeof geokey, 1));
     HOLDS(refusal(&released, sizeof released, 1));
+    HOLDS(refusal(&mended, sizeof mended, 1));
     HOLDS(class_kept.number == 0 && class_kept.kept == 0);
     HOLDS(record_kept.number == 0 && record_kept.kept == 0);
     /* Up to scan_angle: what stands in the bytes behind the last field is open. */
@@ -185,7 +164,7 @@ static void others(void)
 
     HOLDS(las_coordinate(-1, 0x3FE0000000000000, 0x4024000000000000) == 0x4023000000000000);
     HOLDS(las_coordinate(1, 0xFFF0000000000001, 0) == 0x7FF8000000000000);
-    HOLDS(las_level() == 0);
+    HOLDS(las_level() == 1);
 }
 
 int main(void)
@@ -194,6 +173,5 @@ int main(void)
     nothing();
     points();
     others();
-    printf("%d passed, %d failed\n", passed, failed);
-    return failed != 0;
+    return summary();
 }
