@@ -1,5 +1,5 @@
 //! Korbishaf for Rust: readers of LAS 1.2 files (point formats 0 to 3), and releases of what a keep sheet keeps
-//! of them.
+//! of them. [`mend`] sets a header right that lies about its points: their number, points by return and bounds.
 //!
 //! The functions here are thin, safe wrappers of those in Korbishaf's static library, which is proved to do what its
 //! definitions say. Any bytes may be passed. What can't be answered is refused with an [`Error`], which has a
@@ -57,6 +57,7 @@ pub mod bytes;
 mod error;
 mod geokeys;
 mod header;
+mod mend;
 mod points;
 mod records;
 mod release;
@@ -66,6 +67,7 @@ pub mod sys;
 pub use error::{Error, ErrorKind, refusal_words};
 pub use geokeys::{GeoKeyValue, geokey};
 pub use header::{Guid, Header, check_file, read_header};
+pub use mend::{Mended, mend};
 pub use points::{PlacedPoint, Point, Points, coordinate, decode, encode, point_at, points};
 pub use records::{Record, Records, Step, records, step};
 pub use release::{Released, release, release_to_vec};
@@ -74,7 +76,7 @@ pub use sheet::{
     record_kept,
 };
 
-/// The number of the last change request that is in the library; 0 for the base.
+/// The number of the last change request that is in the library: 0 for the base, 1 with [`mend`].
 #[must_use]
 pub fn level() -> u64 {
     sys::las_level()

@@ -64,6 +64,28 @@ fn try_sheet(file: &[u8], sheet: &[u8]) {
     }
 }
 
+/// What holds of mending any of these files. They have one fault at most, so that behind 9 there is no other.
+fn try_mend(file: &[u8], sheet: &[u8], of_file: u64) {
+    let mut mended = file.to_vec();
+    let answer = korbishaf::mend(&mut mended);
+    assert_eq!(number(&answer), if of_file == 9 { 0 } else { of_file });
+    let Ok(answer) = answer else {
+        assert!(mended == file);
+        return;
+    };
+    assert_eq!(answer.any(), mended != file);
+    assert!(mended[..107] == file[..107] && mended[131..179] == file[131..179]);
+    assert!(mended[227..] == file[227..]);
+    assert_eq!(korbishaf::check_file(&mended), Ok(()));
+    if of_file == 0 {
+        let released = bytes::release_to_vec(file, sheet);
+        assert!(bytes::release_to_vec(&mended, sheet) == released);
+    }
+    let again = mended.clone();
+    assert_eq!(korbishaf::mend(&mut mended), Ok(Default::default()));
+    assert!(mended == again);
+}
+
 /// What holds of any file and any sheet. Returns the numbers of the two checks.
 fn try_all(file: &[u8], sheet: &[u8]) -> (u64, u64) {
     let of_file = number(&korbishaf::check_file(file));
@@ -74,6 +96,7 @@ fn try_all(file: &[u8], sheet: &[u8]) -> (u64, u64) {
         of_sheet
     );
     try_sheet(file, sheet);
+    try_mend(file, sheet, of_file);
 
     let released = bytes::release_to_vec(file, sheet);
     assert_eq!(

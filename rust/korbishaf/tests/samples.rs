@@ -107,7 +107,7 @@ fn number<T: std::fmt::Debug>(answer: Result<T, korbishaf::Error>) -> u64 {
 
 #[test]
 fn level() {
-    assert_eq!(korbishaf::level(), 0);
+    assert_eq!(korbishaf::level(), 1);
 }
 
 #[test]
