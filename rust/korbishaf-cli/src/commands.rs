@@ -2,6 +2,7 @@
 
 mod explain;
 mod help;
+mod mend;
 mod release;
 mod report;
 mod sheet;
@@ -18,10 +19,11 @@ use crate::shown;
 use std::ffi::OsString;
 
 /// All commands, in the order in which the help has them.
-const COMMANDS: [&Command; 7] = [
+const COMMANDS: [&Command; 8] = [
     &release::COMMAND,
     &report::COMMAND,
     &show::COMMAND,
+    &mend::COMMAND,
     &sheet::COMMAND,
     &verify::COMMAND,
     &explain::COMMAND,

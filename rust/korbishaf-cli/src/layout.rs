@@ -4,6 +4,8 @@ mod value;
 
 pub use value::{Kind, Value, number};
 
+use std::iter;
+
 /// The size of a header without extra bytes.
 pub const HEADER: usize = 227;
 
@@ -114,6 +116,11 @@ const OTHERS: [Field; 16] = [
     RECORD_LENGTH,
     POINT_COUNT,
 ];
+
+/// The fields that state something of the points, in the order of the header: those that mending sets right.
+pub fn of_points() -> impl Iterator<Item = &'static Field> {
+    iter::once(&POINT_COUNT).chain(&BY_RETURN).chain(&BOUNDS)
+}
 
 /// The field that a place is in; none behind the header's own fields.
 pub fn at(place: usize) -> Option<&'static Field> {

@@ -15,6 +15,7 @@ mod input;
 mod json;
 mod keep_sheet;
 mod layout;
+mod output;
 mod progress;
 mod refusal;
 mod releasing;

@@ -92,23 +92,24 @@ impl Target {
         }
     }
 
-    /// Refuses where what stands there now is one of the files that are read, or may not be replaced.
-    pub fn check(&self, read: &[&Opened]) -> Result<(), Failure> {
-        let Some(old) = &self.old else {
-            return Ok(());
-        };
-        let identity = (old.dev(), old.ino());
-        if let Some(same) = read.iter().find(|opened| opened.identity == identity) {
+    /// Refuses where what stands there now is one of these files, or may not be replaced.
+    pub fn check(&self, spared: &[&Opened]) -> Result<(), Failure> {
+        if let Some(same) = spared.iter().find(|opened| self.is(opened)) {
             return Err(Failure::Usage(format!(
                 "{} and {} are one file",
                 same.name, self.name
             )));
         }
-        if self.force {
-            Ok(())
-        } else {
-            Err(exists(&self.name))
+        match self.old {
+            Some(_) if !self.force => Err(exists(&self.name)),
+            _ => Ok(()),
         }
+    }
+
+    /// Whether what stands there now is that file, by whatever name.
+    pub fn is(&self, opened: &Opened) -> bool {
+        let identity = self.old.as_ref().map(|old| (old.dev(), old.ino()));
+        identity == Some(opened.identity)
     }
 
     /// Writes the file: it is there whole when this succeeds, and as it was when it fails.

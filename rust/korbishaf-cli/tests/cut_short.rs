@@ -1,4 +1,4 @@
-//! Releases that do not get to their end: signals, full disks, outputs that nobody reads.
+//! Releases and mendings that do not get to their end: signals, full disks, outputs that nobody reads.
 
 mod common;
 #[path = "common/system.rs"]
@@ -34,9 +34,9 @@ fn has_part(scratch: &Scratch) -> bool {
         .any(|name| name.starts_with(".korbishaf-") && name.ends_with(".part"))
 }
 
-/// Starts a release and stops it in the middle of writing; none where it was too fast.
-fn stopped_while_writing(scratch: &Scratch) -> Option<Child> {
-    let mut command = scratch.command(["release", "--force", "in.las", "sheet.txt", "out.las"]);
+/// Starts a command and stops it in the middle of writing; none where it was too fast.
+fn stopped_while_writing(scratch: &Scratch, words: &str) -> Option<Child> {
+    let mut command = scratch.command(words.split(' '));
     let mut child = command.stdout(Stdio::null()).spawn().unwrap();
     while child.try_wait().unwrap().is_none() {
         if has_part(scratch) {
@@ -51,48 +51,57 @@ fn stopped_while_writing(scratch: &Scratch) -> Option<Child> {
     child.try_wait().unwrap().is_none().then_some(child)
 }
 
-/// Tries until a release was stopped in the middle of writing, and goes on with it.
-fn try_while_writing(scratch: &Scratch, go_on: impl Fn(Child)) {
+/// Tries until a command was stopped in the middle of writing, each time with a file of that name and these bytes, and
+/// ends it by a signal.
+fn end_while_writing(scratch: &Scratch, words: &str, signal: i32, (name, bytes): (&str, &[u8])) {
     for _ in 0..50 {
-        if let Some(child) = stopped_while_writing(scratch) {
-            return go_on(child);
+        scratch.write(name, bytes);
+        if let Some(mut child) = stopped_while_writing(scratch, words) {
+            send(&child, signal);
+            send(&child, CONT);
+            assert_eq!(child.wait().unwrap().signal(), Some(signal));
+            return;
         }
-        fs::remove_file(scratch.path("out.las")).unwrap();
     }
-    panic!("no release could be stopped while it wrote");
+    panic!("'{words}' could not be stopped while it wrote");
 }
+
+const RELEASE: &str = "release --force in.las sheet.txt out.las";
 
 #[test]
 fn signals_leave_nothing_half_made() {
     let scratch = folder(1_000_000);
     for signal in [INT, TERM, HUP] {
-        scratch.write("out.las", "older");
-        try_while_writing(&scratch, |mut child| {
-            send(&child, signal);
-            send(&child, CONT);
-            assert_eq!(child.wait().unwrap().signal(), Some(signal));
-        });
+        end_while_writing(&scratch, RELEASE, signal, ("out.las", b"older"));
         assert_eq!(scratch.names(), ["in.las", "out.las", "sheet.txt"]);
         assert_eq!(scratch.read("out.las"), b"older");
-        fs::remove_file(scratch.path("out.las")).unwrap();
     }
 }
 
 #[test]
-fn a_kill_leaves_no_output() {
+fn a_kill_leaves_the_output_as_it_was() {
     let scratch = folder(1_000_000);
-    try_while_writing(&scratch, |mut child| {
-        send(&child, KILL);
-        child.wait().unwrap();
-    });
+    end_while_writing(&scratch, RELEASE, KILL, ("out.las", b"older"));
     assert!(has_part(&scratch));
-    assert!(!scratch.path("out.las").exists());
-    let ran = scratch.says("release in.las sheet.txt out.las");
+    assert_eq!(scratch.read("out.las"), b"older");
     assert_eq!(
-        ran.status,
+        scratch.says(RELEASE).status,
         Some(0),
         "what a killed run left is in nobody's way"
     );
+}
+
+/// Where a scan is mended in place there may be no other copy of it.
+#[test]
+fn a_mending_in_place_that_is_cut_short_leaves_the_scan_as_it_was() {
+    let scratch = folder(1_000_000);
+    let scan = scratch.read("in.las");
+    for signal in [INT, TERM, HUP, KILL] {
+        let words = "mend --force in.las in.las";
+        end_while_writing(&scratch, words, signal, ("in.las", &scan));
+        assert!(scratch.read("in.las") == scan);
+        assert_eq!(has_part(&scratch), signal == KILL);
+    }
 }
 
 #[test]
@@ -177,6 +186,11 @@ fn a_full_disk_leaves_nothing_half_made() {
     );
     assert_eq!(scratch.names(), ["in.las", "out.las", "sheet.txt"]);
     assert_eq!(scratch.read("out.las"), b"older");
+    let scan = scratch.read("in.las");
+    let wanted = Ran::new(3, "", "in.las: File too large\n");
+    assert_eq!(limited(&scratch, "mend --force in.las in.las"), wanted);
+    assert_eq!(scratch.names(), ["in.las", "out.las", "sheet.txt"]);
+    assert!(scratch.read("in.las") == scan);
 }
 
 #[test]

@@ -1,5 +1,5 @@
-//! How much memory the command takes: `release` and `verify` the file, the released file and at most 16 MiB, `show` and
-//! `report` the file and at most 16 MiB.
+//! How much memory the command takes: `release` and `verify` the file, the released file and at most 16 MiB, `show`,
+//! `report` and `mend` the file and at most 16 MiB.
 
 mod common;
 
@@ -92,6 +92,20 @@ fn verify_takes_the_two_files_and_little_more() {
     assert_eq!((ran.status, ran.err.as_str()), (Some(1), ""));
     let last = "3 files: 0 verified, 3 not verified, 0 not read\n";
     assert!(ran.out.ends_with(last), "{}", ran.out);
+}
+
+/// The file is mended where it was read to.
+#[test]
+fn mend_takes_the_file_and_little_more() {
+    let (scratch, both) = folder(1);
+    let words = "mend -f in.las out.las";
+    let mut command = within(&scratch, both / 2 + (16 << 20), words);
+    let ran = Ran::of(command.output().unwrap());
+    assert_eq!((ran.status, ran.err.as_str()), (Some(0), ""));
+    assert!(ran.out.starts_with("in.las: "));
+    let mut command = within(&scratch, both / 2 - 1, words);
+    let short = Ran::new(3, "", "in.las: it does not fit into memory\n");
+    assert_eq!(Ran::of(command.output().unwrap()), short);
 }
 
 /// A second thread sets nothing aside that counts: 150 MB, of which a reserve of 64 MiB would be left for it.

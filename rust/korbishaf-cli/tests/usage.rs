@@ -31,7 +31,7 @@ fn commands() -> Vec<String> {
 #[test]
 fn the_help_lists_every_command() {
     let all = [
-        "release", "report", "show", "sheet", "verify", "explain", "help",
+        "release", "report", "show", "mend", "sheet", "verify", "explain", "help",
     ];
     assert_eq!(commands(), all);
     for words in ["help", "--help", "-h"] {
@@ -97,6 +97,9 @@ fn words_that_are_missing_or_too_many_are_wrong_usage() {
         "report a b c",
         "show",
         "show a b",
+        "mend",
+        "mend a",
+        "mend a b c",
         "sheet",
         "sheet a b",
         "sheet a -o",
@@ -116,7 +119,7 @@ fn words_that_are_missing_or_too_many_are_wrong_usage() {
         );
     }
     let ran = says("relaese a b c");
-    let all = "release, report, show, sheet, verify, explain, help";
+    let all = "release, report, show, mend, sheet, verify, explain, help";
     let words = format!("korbishaf: unknown command 'relaese'; the commands are {all}\n");
     assert_eq!(ran, Ran::new(2, "", &words));
     assert_eq!(says("help relaese"), Ran::new(2, "", &words));
@@ -124,7 +127,7 @@ fn words_that_are_missing_or_too_many_are_wrong_usage() {
 
 #[test]
 fn the_version() {
-    let version = concat!("korbishaf ", env!("CARGO_PKG_VERSION"), " (level 0)\n");
+    let version = concat!("korbishaf ", env!("CARGO_PKG_VERSION"), " (level 1)\n");
     assert_eq!(says("--version"), Ran::new(0, version, ""));
     assert_eq!(says("-V"), Ran::new(0, version, ""));
     for option in ["--version", "--help"] {
@@ -164,6 +167,7 @@ fn every_number_is_explained() {
     let seven = "refused 7: point offset below the header size or above the file's length\n\
                  The header is damaged, or the file was cut short before its points.\n";
     assert_eq!(says("explain 7").out, seven);
+    assert!(says("explain 9").out.contains("'korbishaf mend'"));
 }
 
 #[test]

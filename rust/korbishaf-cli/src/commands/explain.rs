@@ -53,7 +53,7 @@ const ADVICE: [(u64, &str); 29] = [
     ),
     (
         9,
-        "The file was cut short, or the header states too many points.",
+        "The file was cut short, or the header states too many points; 'korbishaf mend' sets their number right.",
     ),
     (
         10,

@@ -3,11 +3,11 @@
 use crate::arguments::Arguments;
 use crate::command::{Command, Flag};
 use crate::failure::Failure;
-use crate::input::{self, Opened};
+use crate::input::Opened;
 use crate::keep_sheet::KeepSheet;
+use crate::output::Output;
 use crate::progress::Progress;
 use crate::releasing::{Stopped, release};
-use crate::whole_file::Target;
 use crate::{console, refusal};
 use korbishaf::Released;
 
@@ -39,11 +39,8 @@ fn run(arguments: &Arguments) -> Result<(), Failure> {
     COMMAND.reads_standard_input_once(&arguments.operands[..2])?;
     console::is_open()?;
     let (file, sheet) = (Opened::new(file)?, Opened::new(sheet)?);
-    let to_file = !input::is_standard(out);
-    let target = to_file
-        .then(|| Target::new(out, arguments.force))
-        .transpose()?;
-    if let Some(target) = &target {
+    let output = Output::new(out, arguments)?;
+    if let Some(target) = &output.target {
         target.check(&[&file, &sheet])?;
     }
     let progress = Progress::new(arguments.quiet);
@@ -51,43 +48,24 @@ fn run(arguments: &Arguments) -> Result<(), Failure> {
     let name = file.name.clone();
     let file = file.read(&progress)?;
     match release(&file, &sheet.bytes, &progress) {
-        Ok((out, released)) => hand_over(&out, &released, target, progress, arguments.quiet),
+        Ok((out, released)) => output.hand_over(&out, &line(&released), progress),
         Err(Stopped::Failed(failure)) => Err(failure),
         Err(Stopped::Refused(refused)) => {
             drop(progress);
             let words = refusal::of(&name, &file, &sheet, &refused);
-            refuse(&words, refused.number(), to_file)
+            refuse(&words, refused.number(), output.target.is_some())
         }
     }
 }
 
-/// Writes the released file, to standard output where there is no target, and says the line.
-fn hand_over(
-    out: &[u8],
-    released: &Released,
-    target: Option<Target>,
-    progress: Progress,
-    quiet: bool,
-) -> Result<(), Failure> {
+/// What is said of a release.
+fn line(released: &Released) -> String {
     let Released {
         length,
         points,
         records,
     } = released;
-    let line = format!("released {length} points {points} records {records}");
-    match target {
-        Some(target) => {
-            target.write(out, &progress)?;
-            drop(progress);
-            console::print(format!("{line}\n").as_bytes())
-        }
-        None => {
-            console::print_all(out, &progress)?;
-            drop(progress);
-            console::say(if quiet { "" } else { &line });
-            Ok(())
-        }
-    }
+    format!("released {length} points {points} records {records}")
 }
 
 /// Says on both outputs that the release was refused. Where standard output was to have the file, it gets nothing.

@@ -3,6 +3,7 @@
 #![allow(dead_code, reason = "not every test uses everything")]
 
 use super::common::{Ran, Scratch};
+use compare::damage::POINT_COUNT;
 use compare::spec::{FileSpec, RecordSpec, padded};
 
 /// A sheet that keeps class 2 and one record.
@@ -38,6 +39,24 @@ pub fn clean() -> FileSpec {
         ..FileSpec::bare(0)
     }
 }
+
+/// The clean file with a header that lies about its points in five fields.
+pub fn lying() -> Vec<u8> {
+    let mut spec = clean();
+    spec.old_by_return = [1, 1, 7, 0, u32::MAX];
+    spec.old_bounds[0] = f64::NAN.to_bits();
+    spec.old_bounds[3] = f64::NEG_INFINITY.to_bits();
+    POINT_COUNT.with(&spec.bytes(), 3)
+}
+
+/// These fields, as `mend` shows them.
+pub const LYING: &str = "                                    before  after
+  number of points                       3      2
+  number of points of return 3           7      0
+  number of points of return 5  4294967295      0
+  max X                                NaN   13.0
+  min Y                               -inf    8.0
+";
 
 /// What is said of the clean file with a change.
 pub fn said_of(change: impl FnOnce(&mut FileSpec)) -> Ran {
