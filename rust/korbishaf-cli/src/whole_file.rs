@@ -45,6 +45,8 @@ pub struct Target {
     old: Option<Metadata>,
     /// Whether that is replaced.
     force: bool,
+    /// Whether that is read too, so that what others write to it in the meantime must not be lost.
+    is_read: bool,
 }
 
 impl Target {
@@ -81,14 +83,19 @@ impl Target {
             path,
             old,
             force,
+            is_read: false,
         };
-        match fs::metadata(target.folder()) {
-            Ok(folder) if folder.is_dir() => Ok(target),
-            Ok(_) => Err(Failure::Io(format!(
-                "{}: its folder is no folder",
-                target.name
-            ))),
-            Err(error) => Err(Failure::io(&format!("{}: its folder", target.name), &error)),
+        target.check_folder()?;
+        Ok(target)
+    }
+
+    /// Refuses where there is no folder for it.
+    fn check_folder(&self) -> Result<(), Failure> {
+        let name = format!("{}: its folder", self.name);
+        match fs::metadata(self.folder()) {
+            Ok(folder) if folder.is_dir() => Ok(()),
+            Ok(_) => Err(Failure::Io(format!("{name} is no folder"))),
+            Err(error) => Err(Failure::io(&name, &error)),
         }
     }
 
@@ -106,10 +113,26 @@ impl Target {
         }
     }
 
+    /// Says whether what stands there now is the file that is read. It is then replaced only if it stays as it is now.
+    pub fn is_in_place(&mut self, read: &Opened) -> bool {
+        self.is_read = self.is(read);
+        self.is_read
+    }
+
     /// Whether what stands there now is that file, by whatever name.
-    pub fn is(&self, opened: &Opened) -> bool {
+    fn is(&self, opened: &Opened) -> bool {
         let identity = self.old.as_ref().map(|old| (old.dev(), old.ino()));
         identity == Some(opened.identity)
+    }
+
+    /// Refuses where what stood there is read too and has changed since: it may still be on its way here.
+    fn spare_changes(&self) -> Result<(), Failure> {
+        let now = fs::metadata(&self.path).ok();
+        if self.is_read && now.as_ref().map(state) != self.old.as_ref().map(state) {
+            let words = format!("{}: was changed in the meantime, and stays", self.name);
+            return Err(Failure::Io(words));
+        }
+        Ok(())
     }
 
     /// Writes the file: it is there whole when this succeeds, and as it was when it fails.
@@ -130,6 +153,7 @@ impl Target {
             begin_to_flush(&file, index * FLUSHED, flushed.len());
         }
         file.sync_all().map_err(failed)?;
+        self.spare_changes()?;
         part.rename_to(&self.path, self.force)
             .map_err(|error| match error.kind() {
                 ErrorKind::AlreadyExists => exists(&self.name),
@@ -159,6 +183,12 @@ fn can_be_replaced(name: &str, old: &Metadata) -> Result<(), Failure> {
         return Ok(());
     };
     Err(Failure::Usage(format!("{name}: {words}")))
+}
+
+/// What tells whether a file was written to: which one it is, its length, and when it was changed.
+fn state(file: &Metadata) -> (u64, u64, u64, i64, i64) {
+    let (second, nanosecond) = (file.mtime(), file.mtime_nsec());
+    (file.dev(), file.ino(), file.len(), second, nanosecond)
 }
 
 fn exists(name: &str) -> Failure {

@@ -37,7 +37,8 @@ fn has_part(scratch: &Scratch) -> bool {
 /// Starts a command and stops it in the middle of writing; none where it was too fast.
 fn stopped_while_writing(scratch: &Scratch, words: &str) -> Option<Child> {
     let mut command = scratch.command(words.split(' '));
-    let mut child = command.stdout(Stdio::null()).spawn().unwrap();
+    command.stdout(Stdio::null()).stderr(Stdio::piped());
+    let mut child = command.spawn().unwrap();
     while child.try_wait().unwrap().is_none() {
         if has_part(scratch) {
             send(&child, STOP);
@@ -51,22 +52,27 @@ fn stopped_while_writing(scratch: &Scratch, words: &str) -> Option<Child> {
     child.try_wait().unwrap().is_none().then_some(child)
 }
 
-/// Tries until a command was stopped in the middle of writing, each time with a file of that name and these bytes, and
-/// ends it by a signal.
-fn end_while_writing(scratch: &Scratch, words: &str, signal: i32, (name, bytes): (&str, &[u8])) {
+/// Tries until a command was stopped in the middle of writing, each time with a file of that name and these bytes.
+fn stop_while_writing(scratch: &Scratch, words: &str, (name, bytes): (&str, &[u8])) -> Child {
     for _ in 0..50 {
         scratch.write(name, bytes);
-        if let Some(mut child) = stopped_while_writing(scratch, words) {
-            send(&child, signal);
-            send(&child, CONT);
-            assert_eq!(child.wait().unwrap().signal(), Some(signal));
-            return;
+        if let Some(child) = stopped_while_writing(scratch, words) {
+            return child;
         }
     }
     panic!("'{words}' could not be stopped while it wrote");
 }
 
+/// The same, and ends the command by a signal.
+fn end_while_writing(scratch: &Scratch, words: &str, signal: i32, file: (&str, &[u8])) {
+    let mut child = stop_while_writing(scratch, words, file);
+    send(&child, signal);
+    send(&child, CONT);
+    assert_eq!(child.wait().unwrap().signal(), Some(signal));
+}
+
 const RELEASE: &str = "release --force in.las sheet.txt out.las";
+const MEND: &str = "mend --force in.las in.las";
 
 #[test]
 fn signals_leave_nothing_half_made() {
@@ -97,11 +103,26 @@ fn a_mending_in_place_that_is_cut_short_leaves_the_scan_as_it_was() {
     let scratch = folder(1_000_000);
     let scan = scratch.read("in.las");
     for signal in [INT, TERM, HUP, KILL] {
-        let words = "mend --force in.las in.las";
-        end_while_writing(&scratch, words, signal, ("in.las", &scan));
+        end_while_writing(&scratch, MEND, signal, ("in.las", &scan));
         assert!(scratch.read("in.las") == scan);
         assert_eq!(has_part(&scratch), signal == KILL);
     }
+}
+
+/// A scan that seems to be cut short may still be on its way here.
+#[test]
+fn a_scan_that_grows_while_it_is_mended_in_place_stays() {
+    let scratch = folder(1_000_000);
+    let mut scan = scratch.read("in.las");
+    let child = stop_while_writing(&scratch, MEND, ("in.las", &scan));
+    scan.push(7);
+    scratch.write("in.las", &scan);
+    send(&child, CONT);
+    let ran = Ran::of(child.wait_with_output().unwrap());
+    let words = "in.las: was changed in the meantime, and stays\n";
+    assert_eq!(ran, Ran::new(3, "", words));
+    assert!(scratch.read("in.las") == scan);
+    assert_eq!(scratch.names(), ["in.las", "sheet.txt"]);
 }
 
 #[test]
@@ -188,7 +209,7 @@ fn a_full_disk_leaves_nothing_half_made() {
     assert_eq!(scratch.read("out.las"), b"older");
     let scan = scratch.read("in.las");
     let wanted = Ran::new(3, "", "in.las: File too large\n");
-    assert_eq!(limited(&scratch, "mend --force in.las in.las"), wanted);
+    assert_eq!(limited(&scratch, MEND), wanted);
     assert_eq!(scratch.names(), ["in.las", "out.las", "sheet.txt"]);
     assert!(scratch.read("in.las") == scan);
 }

@@ -33,10 +33,10 @@ Mending can't change what goes out, unless IN is a file that a release refuses w
 file releases under any sheet is the same before and after.
 
 OUT is whole or not there: it is written under a name of its own in the same folder, flushed, and then
-renamed. What is there already is replaced only with --force. OUT may be IN then, which is not written if
-nothing had to be mended; a link stays, and what it leads to is replaced. INT, TERM and HUP leave nothing
-behind. Where OUT is '-', the mended file goes to standard output, and what is said of it to standard
-error unless --quiet is there.
+renamed. What is there already is replaced only with --force. OUT may be IN then, which stays if nothing
+had to be mended, or if it was changed in the meantime; a link stays, and what it leads to is replaced.
+INT, TERM and HUP leave nothing behind. Where OUT is '-', the mended file goes to standard output, and
+what is said of it to standard error unless --quiet is there.
 ",
     run,
 };
@@ -47,11 +47,11 @@ fn run(arguments: &Arguments) -> Result<(), Failure> {
     };
     console::is_open()?;
     let opened = Opened::new(file)?;
-    let output = Output::new(out, arguments)?;
+    let mut output = Output::new(out, arguments)?;
     let mut in_place = false;
-    if let Some(target) = &output.target {
+    if let Some(target) = &mut output.target {
         target.check(&[])?;
-        in_place = target.is(&opened);
+        in_place = target.is_in_place(&opened);
     }
     let name = opened.name.clone();
     let progress = Progress::new(arguments.quiet);
