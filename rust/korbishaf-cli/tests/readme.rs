@@ -40,7 +40,7 @@ fn the_readme_shows_what_is_printed() {
     symlink(root().join("cards"), scratch.path("cards")).unwrap();
     let blocks = readme.split("```console\n").skip(1);
     let shown: Vec<_> = blocks.flat_map(|block| commands(block, "```")).collect();
-    assert_eq!(shown.len(), 7);
+    assert_eq!(shown.len(), 9);
     // tests/install.sh tries the first
     assert!(shown[0].0.starts_with("./install "));
     for (command, output) in &shown[1..] {
