@@ -18,49 +18,58 @@ pub struct LasFile<'a> {
 impl<'a> LasFile<'a> {
     /// Makes the file checks in the specification's order.
     pub fn open(bytes: &'a [u8]) -> Result<Self, Refusal> {
-        Self::with_fitting_records(bytes)?
-            .with_fitting_points()?
-            .with_sound_scaling()
+        let file = Self::with_header(bytes)?;
+        file.check_records()?;
+        file.check_points()?;
+        file.check_scaling()?;
+        Ok(file)
     }
 
     /// Makes the file checks but 9: a number of points that is too large counts as that of the whole records that fit.
     pub(crate) fn open_cut(bytes: &'a [u8]) -> Result<Self, Refusal> {
-        Self::with_fitting_records(bytes)?
-            .with_points_cut()
-            .with_sound_scaling()
-    }
-
-    /// The checks 1 to 8.
-    fn with_fitting_records(bytes: &'a [u8]) -> Result<Self, Refusal> {
-        let header = Header::read(bytes)?;
-        let file = Self { bytes, header };
-        if !file.vlrs().all_fit() {
-            return Err(Refusal::RecordPastPoints);
-        }
+        let mut file = Self::with_header(bytes)?;
+        file.check_records()?;
+        file.cut_points();
+        file.check_scaling()?;
         Ok(file)
     }
 
+    /// The checks 1 to 7.
+    fn with_header(bytes: &'a [u8]) -> Result<Self, Refusal> {
+        let header = Header::read(bytes)?;
+        Ok(Self { bytes, header })
+    }
+
+    /// The check 8.
+    fn check_records(&self) -> Result<(), Refusal> {
+        if self.vlrs().all_fit() {
+            Ok(())
+        } else {
+            Err(Refusal::RecordPastPoints)
+        }
+    }
+
     /// The check 9.
-    fn with_fitting_points(self) -> Result<Self, Refusal> {
+    fn check_points(&self) -> Result<(), Refusal> {
         if self.points_end() > self.bytes.len() as u64 {
             return Err(Refusal::PointsPastEnd);
         }
-        Ok(self)
-    }
-
-    fn with_points_cut(mut self) -> Self {
-        let room = self.bytes.len() - self.header.point_offset as usize;
-        let fitting = room / usize::from(self.header.record_length);
-        self.header.point_count = u64::from(self.header.point_count).min(fitting as u64) as u32;
-        self
+        Ok(())
     }
 
     /// The check 10.
-    fn with_sound_scaling(self) -> Result<Self, Refusal> {
-        if !self.header.scaling.in_range() {
-            return Err(Refusal::BadScaling);
+    fn check_scaling(&self) -> Result<(), Refusal> {
+        if self.header.scaling.in_range() {
+            Ok(())
+        } else {
+            Err(Refusal::BadScaling)
         }
-        Ok(self)
+    }
+
+    fn cut_points(&mut self) {
+        let room = self.bytes.len() - self.header.point_offset as usize;
+        let fitting = room / usize::from(self.header.record_length);
+        self.header.point_count = u64::from(self.header.point_count).min(fitting as u64) as u32;
     }
 
     /// The fields of the header.
