@@ -37,7 +37,7 @@
  *    6  record length below the format's size (20, 28, 26, 34 for 0, 1, 2, 3)
  *    7  point offset below the header size or above the file's length
  *    8  a counted variable length record runs past the point offset
- *    9  the points run past the file's end
+ *    9  the points run past the file's end (never given by las_mend)
  *   10  a scale is not from 2^-40 to 2^20, or an offset not from -2^40 to 2^40
  *       (a NaN fails)
  *       Points and records:
