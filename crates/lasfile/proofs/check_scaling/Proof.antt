@@ -1,8 +1,10 @@
 -- `lasfile::check_scaling` meets its contract. Assumes nothing.
 use mathlib.Core.Path.{_≡_, sym, ap, _∙_, subst}
+use mathlib.Core.List.{[]}
 use borrow.Author.Tests.{not-true, not-false}
 use denote.Ref.{now}
 use lib.Dec.{T}
+use Rattle.fields.specs.Checks.{not-so}
 use Rattle.fields.proofs.CheckLaws.{first-fails, all-clear}
 use Rattle.scaling.specs.Scaling.{scalingOf, goodScaling}
 use Rattle.lasfile.proofs.check_scaling.Statement.{statement}
@@ -12,7 +14,9 @@ good : (c : tie.After-is-good) → c .is-good .result ≡ goodScaling (scalingOf
 good c = c .is-good .ensures ∙ ap goodScaling (c .before .read .ensures)
 
 returns : tie.Need-returns
-returns c = sym (first-fails _ _ _ (sym (good (c .before)) ∙ not-true _ (c .if1 .taken)))
+returns c =
+    let s = now (c .before .before .before .before .args .file) in
+    sym (first-fails 10 (not-so (goodScaling (scalingOf s))) [] (sym (good (c .before)) ∙ not-true _ (c .if1 .taken)))
 
 returns-2 : tie.Need-returns-2
 returns-2 c = sym (all-clear _ (subst T (sym (sym (good (c .before)) ∙ not-false _ (c .if1 .left))) tt, tt))
