@@ -153,7 +153,11 @@ part-part at w i k s h =
 
 -- ---- equal runs
 
-and-parts : (a b : Bool) → T (a && b) → T a × T b
+pub and-false : (b : Bool) → b && false ≡ false
+and-false true = refl
+and-false false = refl
+
+pub and-parts : (a b : Bool) → T (a && b) → T a × T b
 and-parts true b t = (tt, t)
 and-parts false b t = absurd t
 

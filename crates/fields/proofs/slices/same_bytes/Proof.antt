@@ -2,7 +2,7 @@
 -- on are.
 -- Assumes nothing.
 use mathlib.Core.Path.{_≡_, refl, sym, ap, _∙_}
-use mathlib.Core.Bool.{Bool, true, false, _&&_}
+use mathlib.Core.Bool.{true, false, _&&_}
 use mathlib.Core.List.{[], _∷_}
 use Prim.Native.Nat.{ℕ, suc, _-_, _≤_, _<_}
 use native.Mathlib.Numerals.{add-one}
@@ -12,12 +12,9 @@ use lib.Dec.{eqb}
 use lib.ListN.{length, getD, drop, drop-of-length-le}
 use lib.Seq.{drop-cons}
 use Rattle.fields.specs.Bytes.{Bytes, same}
+use Rattle.fields.proofs.ByteLaws.{and-false}
 use Rattle.fields.proofs.slices.same_bytes.Statement.{statement}
 use Rattle.fields.proofs.slices.same_bytes.Tie as tie
-
-and-false : (b : Bool) → b && false ≡ false
-and-false true = refl
-and-false false = refl
 
 other-lengths : (a b : Bytes) → (length a ≡ length b → ⊥) → same a b ≡ false
 unfolding same
