@@ -1,18 +1,18 @@
 -- The theorems applied to the samples' files, sheets and points: what they ask for is computed, and the rest is their
 -- word.
 -- Assumes nothing.
-use mathlib.Core.Path.{_≡_, refl, sym, ap, _∙_}
-use mathlib.Core.Logic.{inl, inr, _↔_}
+use mathlib.Core.Path.{_≡_, refl, sym, ap, subst, _∙_}
+use mathlib.Core.Logic.{inl, inr, _↔_, _⊎_}
 use Prim.Native.Nat.{ℕ, zero, suc, _+_, _-_, _/_, _^_, _≤_, _<_, min}
 use native.Mathlib.Omega.{arith}
-use mathlib.Core.Bool.{Bool, true, false, _&&_}
+use mathlib.Core.Bool.{Bool, true, false, not, _&&_}
 use mathlib.Core.List.{[], _∷_, _++_}
-use lib.Dec.{T, eqb, ltb, ltb→lt, lit≤, lit<}
-use lib.ListN.{length, drop, getD}
+use lib.Dec.{T, T-not, eqb, eqb-refl, ltb, ltb→lt, lit≤, lit<}
+use lib.ListN.{length, drop, getD, replicate}
 use lib.IntN.{ℤ, pos, negsuc, _+ℤ_, _*ℤ_}
 use lib.Ieee.{binary64, ofInt, fin}
 use lib.Ieee.Fits.{and-l, and-r}
-use Rattle.fields.specs.Lists.{kept, total}
+use Rattle.fields.specs.Lists.{All, kept, total}
 use Rattle.fields.specs.Bytes.{Bytes, AllBytes, part, num, zeros}
 use Rattle.fields.specs.Checks.{numberOf}
 use Rattle.fields.specs.declared.Verdict.the-variants.{Passes, Fails}
@@ -34,7 +34,8 @@ use Rattle.reader.specs.Header as header
 use Rattle.reader.specs.Header.{headerRead}
 use Rattle.reader.specs.Steps.{recordIf, stepOf}
 use Rattle.reader.specs.OnePoint.{pointIf, pointAtOf}
-use Rattle.sheet.specs.Keeping.{keptUnder}
+use Rattle.sheet.specs.Keeping.{keptUnder, keepsRecord}
+use Rattle.fields.specs.Text.{cut}
 use Rattle.geokeys.specs.GeoKeys.{first, orLater, isProjection, projectionPlace, fromDirectory, answerIf, lookup}
 use Rattle.capi.specs.Answers.{keptNumbers, mendedNumbers}
 use Rattle.lasfile.specs.FileChecks.{fileVerdict, mendVerdict}
@@ -53,7 +54,7 @@ use Rattle.theorems.specs.BoundsOfKept.{Binned}
 use Rattle.theorems.specs.Demand1.{NothingChanged, ZerosBeside, EachNumber}
 use Rattle.theorems.specs.Mending.{Mends, InNoField}
 use Rattle.theorems.specs.Samples.{sheet3, sheet4, sheet5, sheet6, point7, used, half, ten, file9}
-use Rattle.theorems.specs.Instances.{other9, filled, output9, OfOutput9, fields7, numbers7, oneRecord, sheetA7, sheet64, NothingChangedMet, ZerosBesideMet, EachNumberMet, ExactlyMet, ShortMet, AgainMet, RecognisedMet, CompleteMet, NeverLongerMet, BoundsOfKeptMet, SheetsMet, FilesMet, VisitsMet, RoundTripsMet, CoordinatesMet, OwnBitsMet, long7, FirstBytesMet, cut9, pointless9, MendingMet}
+use Rattle.theorems.specs.Instances.{other9, filled, output9, OfOutput9, fields7, numbers7, oneRecord, sheetA7, sheet64, NothingChangedMet, ZerosBesideMet, EachNumberMet, ExactlyMet, ShortMet, AgainMet, RecognisedMet, CompleteMet, NeverLongerMet, BoundsOfKeptMet, SheetsMet, FilesMet, VisitsMet, RoundTripsMet, CoordinatesMet, OwnBitsMet, long7, FirstBytesMet, cut9, pointless9, MendingMet, AB, A-B, sheetSpaces7, named9, TextsMet}
 use Rattle.theorems.proofs.FirstBytes.{first-bytes}
 use Rattle.theorems.proofs.Samples.{computed}
 use Rattle.theorems.proofs.Demand1.{demand1}
@@ -63,6 +64,8 @@ use Rattle.theorems.proofs.ReleasedFile.{complete}
 use Rattle.theorems.proofs.NeverLonger.{never-longer}
 use Rattle.theorems.proofs.BoundsOfKept.{bounds-of-kept}
 use Rattle.theorems.proofs.Files.{files}
+use Rattle.theorems.proofs.Texts.{plain, texts}
+use Rattle.theorems.specs.Texts.{Plain, IsCut}
 use Rattle.theorems.proofs.Mending.{untouched, marked, right-about-points, mended-twice, keeps-release}
 use Rattle.theorems.proofs.sheet.SheetLaws.{lines-are}
 use Rattle.theorems.proofs.sheet.KeepingLaws.{kept-by-lines}
@@ -485,6 +488,82 @@ round-trips-met =
 pub first-bytes-met : FirstBytesMet
 first-bytes-met =
     record { kept = first-bytes .kept sheet3 1 20 long7 (lit≤ tt); counted = first-bytes .counted 1 20 noTally long7 (lit≤ tt) }
+
+-- ---- texts
+
+spaced-good9 : Good (named9 (replicate 32 0x20))
+unfolding computed all-small
+spaced-good9 = record { bytes = all-bytes (named9 (replicate 32 0x20)) tt; passes = refl }
+
+joined-good9 : Good (named9 (AB ++ zeros 30))
+unfolding computed all-small
+joined-good9 = record { bytes = all-bytes (named9 (AB ++ zeros 30)) tt; passes = refl }
+
+apart-good9 : Good (named9 (A-B ++ zeros 29))
+unfolding computed all-small
+apart-good9 = record { bytes = all-bytes (named9 (A-B ++ zeros 29)) tt; passes = refl }
+
+named-part9 : publicOf sheet3 file9 ≡ publicOf sheet3 (named9 (replicate 32 0x20))
+unfolding computed
+named-part9 = refl
+
+named-needed9 : (needed sheet3 (named9 (replicate 32 0x20)) ≡ 255)
+    × (needed sheet3 (named9 (AB ++ zeros 30)) ≡ 255)
+    × (needed sheet3 (named9 (A-B ++ zeros 29)) ≡ 255)
+unfolding computed
+named-needed9 = (refl, refl, refl)
+
+first-bytes9 : (getD file9 26 0 ≡ 0) × (getD (named9 (replicate 32 0x20)) 26 0 ≡ 32)
+unfolding computed
+first-bytes9 = (refl, refl)
+
+systems9 : (length (publicOf sheet3 (named9 (AB ++ zeros 30)) .carried .system) ≡ 2)
+    × (length (publicOf sheet3 (named9 (A-B ++ zeros 29)) .carried .system) ≡ 3)
+unfolding computed
+systems9 = (refl, refl)
+
+other : (m n : ℕ) → T (not (eqb m n)) → m ≡ n → ⊥
+other m n t e = T-not (eqb m n) t (subst (λ (k : ℕ). T (eqb m k)) e (eqb-refl m))
+
+plain-AB : Plain AB
+plain-AB = plain AB (other 0x41 0 tt, (other 0x42 0 tt, other 0x42 32 tt))
+
+plain-A-B : Plain A-B
+plain-A-B = plain A-B (other 0x41 0 tt, (other 0x20 0 tt, (other 0x42 0 tt, other 0x42 32 tt)))
+
+plain-in-front : Plain (0x20 ∷ 0x41 ∷ [])
+plain-in-front = plain (0x20 ∷ 0x41 ∷ []) (other 0x20 0 tt, (other 0x41 0 tt, other 0x41 32 tt))
+
+blanks : (n : ℕ) → All (λ (b : ℕ). (b ≡ 0) ⊎ (b ≡ 32)) (replicate n 0x20)
+blanks zero = tt
+blanks (suc n) = (inr refl, blanks n)
+
+behind-cut : IsCut (AB ++ 0x20 ∷ 0x20 ∷ 0x00 ∷ 0x20 ∷ 0x78 ∷ []) AB
+behind-cut = record { spaces = 2; rest = 0x00 ∷ 0x20 ∷ 0x78 ∷ []; whole = refl; zero-first = refl; plain = plain-AB }
+
+names-kept : (keepsRecord sheetA7 (cut (0x41 ∷ replicate 15 0x20)) 7 ≡ true) × (keepsRecord sheetSpaces7 (cut (zeros 16)) 7 ≡ true)
+unfolding computed
+names-kept = (refl, refl)
+
+pub texts-met : TextsMet
+texts-met =
+    record {
+      behind = texts .is-cut (AB ++ 0x20 ∷ 0x20 ∷ 0x00 ∷ 0x20 ∷ 0x78 ∷ []) AB .1 behind-cut;
+      inner = texts .no-inner-zero A-B (0x20 ∷ []) plain-A-B (inr refl, tt);
+      all-spaces = texts .no-inner-zero [] (replicate 16 0x20) (plain [] tt) (blanks 16);
+      in-front = texts .no-inner-zero (0x20 ∷ 0x41 ∷ []) [] plain-in-front tt;
+      name-kept = names-kept .0;
+      empty-name-kept = names-kept .1;
+      files-differ = λ e. let z : _≡_ {A = ℕ} 0 32 = sym (first-bytes9 .0) ∙ ap (λ (s : Bytes). getD s 26 0) e ∙ first-bytes9 .1 in omega arith;
+      spaces-alike =
+          demand3 .exactly sheet3 file9 (named9 (replicate 32 0x20)) (filled 7) (filled 9) sheet-passes9 good9 spaced-good9 refl
+          (omega (arith, needed9 .0)) (omega (arith, named-needed9 .0)) .1 named-part9;
+      inner-apart = λ same.
+          let parts = demand3 .exactly sheet3 (named9 (AB ++ zeros 30)) (named9 (A-B ++ zeros 29)) (filled 7) (filled 9) sheet-passes9 joined-good9
+          apart-good9 refl (omega (arith, named-needed9 .1)) (omega (arith, named-needed9 .2)) .0 same in
+          let z : _≡_ {A = ℕ} 2 3 = sym (systems9 .0) ∙ ap (λ p. length (p .carried .system)) parts ∙ systems9 .1 in
+          omega arith;
+    }
 
 -- ---- coordinates
 

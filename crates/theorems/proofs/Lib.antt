@@ -1,5 +1,6 @@
 pub mod ReleaseLaws
 pub mod TableLaws
+pub mod Texts
 pub mod Demand1
 pub mod Demand3
 pub mod NeverLonger

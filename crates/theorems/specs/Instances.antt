@@ -12,6 +12,7 @@ use lib.Ieee.Scale.{finite}
 use mathlib.Core.Bool.{true, false}
 use Rattle.fields.specs.Bytes.{Bytes, part, num, zeros, join}
 use Rattle.fields.specs.Checks.{AllClear}
+use Rattle.fields.specs.Text.{cut}
 use Rattle.fields.specs.declared.Verdict.the-variants.{Passes, Fails}
 use Rattle.points.specs.declared.Point.{Point}
 use Rattle.points.specs.declared.Decoded.the-variants.{Fields}
@@ -26,7 +27,7 @@ use Rattle.reader.specs.Steps.{stepChecks, recordPlaces, stepOf, visited}
 use Rattle.reader.specs.declared.cursor.Step.the-variants.{Refused}
 use Rattle.reader.specs.OnePoint.{pointChecks}
 use Rattle.sheet.specs.Sheet.{kind, lowest, highest, userID, recordID, lines}
-use Rattle.sheet.specs.Keeping.{keepsClass, keepsPoint}
+use Rattle.sheet.specs.Keeping.{keepsClass, keepsPoint, keepsRecord}
 use Rattle.lasfile.specs.HeaderFields.{pointCount}
 use Rattle.publicpart.specs.Public.{contents, publicOf}
 use Rattle.publicpart.specs.Release.{release}
@@ -260,6 +261,46 @@ pub record MendingMet : Type 0 where
   pub release-stays : release sheet3 (mend file9 .1) (filled 7) ≡ release sheet3 file9 (filled 7)
   -- a file that is refused with another number is refused as before
   pub refused-alike : release sheet3 (mend (zeros 227) .1) (filled 7) ≡ release sheet3 (zeros 227) (filled 7)
+
+-- ---- texts
+
+-- the letters A and B
+abbrev pub AB : Bytes
+AB = 0x41 ∷ 0x42 ∷ []
+
+-- and with a space between them
+abbrev pub A-B : Bytes
+A-B = 0x41 ∷ 0x20 ∷ 0x42 ∷ []
+
+-- a sheet that keeps the record with a user ID of spaces and record ID 7
+abbrev pub sheetSpaces7 : Bytes
+sheetSpaces7 = 0x4B ∷ 0x53 ∷ 0x02 ∷ (replicate 16 0x20 ++ 0x07 ∷ 0x00 ∷ [])
+
+-- sample P9's file with another system identifier, of 32 bytes
+abbrev pub named9 : Bytes → Bytes
+named9 t = take 26 file9 ++ (t ++ drop 58 file9)
+
+pub record TextsMet : Type 0 where
+  -- two spaces, a zero and what follows it go
+  pub behind : cut (AB ++ 0x20 ∷ 0x20 ∷ 0x00 ∷ 0x20 ∷ 0x78 ∷ []) ≡ AB
+  -- an inner space stays, and one at the end goes
+  pub inner : cut (A-B ++ 0x20 ∷ []) ≡ A-B
+  -- nothing is left of 16 spaces
+  pub all-spaces : cut (replicate 16 0x20) ≡ []
+  -- a space in front stays
+  pub in-front : cut (0x20 ∷ 0x41 ∷ []) ≡ 0x20 ∷ 0x41 ∷ []
+  -- a line for "A" keeps the record whose user ID is "A" and 15 spaces
+  pub name-kept : keepsRecord sheetA7 (cut (0x41 ∷ replicate 15 0x20)) 7 ≡ true
+  -- and a line for 16 spaces the one whose user ID is empty
+  pub empty-name-kept : keepsRecord sheetSpaces7 (cut (zeros 16)) 7 ≡ true
+  -- 32 spaces make another file
+  pub files-differ : file9 ≡ named9 (replicate 32 0x20) → ⊥
+  -- with the same release
+  pub spaces-alike : Same (release sheet3 file9 (filled 7)) (release sheet3 (named9 (replicate 32 0x20)) (filled 9))
+  -- an inner space makes another release
+  pub inner-apart : Same (release sheet3 (named9 (AB ++ zeros 30)) (filled 7))
+      (release sheet3 (named9 (A-B ++ zeros 29)) (filled 9))
+      → ⊥
 
 -- ---- sheets, files, points, coordinates
 

@@ -1,5 +1,6 @@
 pub mod Terms
 pub mod Tables
+pub mod Texts
 pub mod Demand1
 pub mod Demand3
 pub mod Recognised
