@@ -37,10 +37,13 @@ pub fn put(bytes: &mut [u8], at: usize, part: &[u8]) {
     bytes[at..at + part.len()].copy_from_slice(part);
 }
 
-/// What a text field means: its bytes before the first zero, or all of them.
+/// What a text field means: its bytes before the first zero, or all of them, without the spaces that these end with.
+/// A space is the byte 0x20; no other white space goes.
 pub fn cut(text: &[u8]) -> &[u8] {
-    let end = text.iter().position(|&byte| byte == 0);
-    &text[..end.unwrap_or(text.len())]
+    let zero = text.iter().position(|&byte| byte == 0);
+    let before_zero = &text[..zero.unwrap_or(text.len())];
+    let last = before_zero.iter().rposition(|&byte| byte != b' ');
+    &before_zero[..last.map_or(0, |last| last + 1)]
 }
 
 #[cfg(test)]
@@ -61,5 +64,33 @@ mod tests {
         assert_eq!(cut(b"abcd"), b"abcd");
         assert_eq!(cut(b"\0abc"), b"");
         assert_eq!(cut(b""), b"");
+    }
+
+    #[test]
+    fn spaces_at_the_end_go_after_the_cut_at_the_zero() {
+        assert_eq!(cut(b"AB  \0 x"), b"AB");
+        assert_eq!(cut(b"AB\0  "), b"AB");
+        assert_eq!(cut(b"AB  "), b"AB");
+        assert_eq!(cut(b"fifteen letters "), b"fifteen letters");
+        for spaces in [b" ".as_slice(), b"   ", &[b' '; 300], b"  \0x", b"\0  "] {
+            assert_eq!(cut(spaces), b"", "{spaces:?}");
+        }
+    }
+
+    #[test]
+    fn spaces_in_front_and_within_stay() {
+        assert_eq!(cut(b" A"), b" A");
+        assert_eq!(cut(b"A B "), b"A B");
+        assert_eq!(cut(b"  A  B  \0"), b"  A  B");
+        assert_eq!(cut(b"               A"), b"               A");
+    }
+
+    #[test]
+    fn no_byte_but_zero_and_space_ends_a_text() {
+        for byte in (1..=255).filter(|&byte| byte != b' ') {
+            assert_eq!(cut(&[b'A', byte, b' ']), [b'A', byte]);
+            assert_eq!(cut(&[b'A', b' ', byte]), [b'A', b' ', byte]);
+            assert_eq!(cut(&[byte]), [byte]);
+        }
     }
 }

@@ -168,6 +168,23 @@ mod tests {
     }
 
     #[test]
+    fn names_padded_with_a_space_are_found_and_values_keep_their_spaces() {
+        let mut area = area(&[directory([7, TEXTS, 4, 0]), (TEXTS, b"one     ".to_vec())]);
+        let text = GeoValue::Text {
+            place: 54 + 16 + 54,
+            length: 4,
+        };
+        for last_of_name in [17, 54 + 16 + 17] {
+            area[last_of_name] = b' ';
+            assert_eq!(find(&Vlrs::new(&area, 0, 2), 7), Ok(text));
+        }
+        area[54 + 16 + 17] = b'\t';
+        assert_eq!(find(&Vlrs::new(&area, 0, 2), 7), Err(Refusal::NoParameters));
+        area[17] = b'\t';
+        assert_eq!(find(&Vlrs::new(&area, 0, 2), 7), Err(Refusal::NoDirectory));
+    }
+
+    #[test]
     fn each_fault_has_its_refusal() {
         let doubles = (DOUBLES, vec![0; 15]);
         let texts = (TEXTS, vec![0; 4]);

@@ -203,6 +203,16 @@ mod tests {
     }
 
     #[test]
+    fn texts_padded_with_spaces_read_as_those_padded_with_zeros() {
+        let zeros = sample::p9_file();
+        let mut spaces = zeros.clone();
+        spaces[26 + 5..58].fill(b' ');
+        spaces[58 + 7..90].fill(b' ');
+        assert_eq!(Header::read(&spaces), Header::read(&zeros));
+        assert_eq!(Header::read(&spaces).unwrap().system_identifier, b"ALS50");
+    }
+
+    #[test]
     fn max_stands_before_min() {
         let file = sample::p9_file();
         let mut header = Header::read(&file).unwrap();

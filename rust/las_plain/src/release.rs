@@ -184,6 +184,22 @@ mod tests {
     }
 
     #[test]
+    fn a_release_writes_zeros_for_the_spaces_behind_texts() {
+        let mut file = p9_file();
+        for (start, end) in [(26 + 5, 58), (58 + 7, 90), (229 + 4, 245), (249, 281)] {
+            file[start..end].fill(b' ');
+        }
+        let sheet = [b"KS\x02user".as_slice(), &[0; 12], &[7, 0]].concat();
+        let (mut padded, mut spaced) = ([0xAA; 291], [0xBB; 291]);
+        let answer = release(&p9_file(), &sheet, &mut padded);
+        assert_eq!(release(&file, &sheet, &mut spaced), answer);
+        assert_eq!(answer.unwrap().records, 1);
+        assert_eq!(spaced, padded);
+        assert_eq!(spaced[229..245], *b"user\0\0\0\0\0\0\0\0\0\0\0\0");
+        assert_eq!(spaced[249..281], [0; 32]);
+    }
+
+    #[test]
     fn a_release_of_a_release_is_the_same() {
         let (mut once, mut again) = ([0xAA; 300], [0xBB; 300]);
         let first = release(&p9_file(), &P3_SHEET, &mut once);

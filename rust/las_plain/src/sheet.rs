@@ -193,4 +193,30 @@ mod tests {
         assert_eq!(record_kept(&sheet, b"user", 8), Ok(false));
         assert_eq!(record_kept(&sheet, b"users", 7), Ok(false));
     }
+
+    #[test]
+    fn spaces_at_the_end_of_a_user_id_do_not_count_on_either_side() {
+        let zeros = [b"KS\x02user".as_slice(), &[0; 12], &[7, 0]].concat();
+        let spaces = [b"KS\x02user".as_slice(), &[b' '; 12], &[7, 0]].concat();
+        let long = [b"user".as_slice(), &[b' '; 300]].concat();
+        for sheet in [&zeros, &spaces] {
+            for user_id in [b"user".as_slice(), b"user ", b"user \0 x", &long] {
+                assert_eq!(record_kept(sheet, user_id, 7), Ok(true), "{user_id:?}");
+            }
+            for user_id in [b" user".as_slice(), b"us er", b"user\t", b"user x", b" "] {
+                assert_eq!(record_kept(sheet, user_id, 7), Ok(false), "{user_id:?}");
+            }
+        }
+    }
+
+    #[test]
+    fn a_user_id_of_spaces_is_the_empty_one() {
+        let spaces = [b"KS\x02".as_slice(), &[b' '; 16], &[7, 0]].concat();
+        let zeros = [b"KS\x02".as_slice(), &[0; 16], &[7, 0]].concat();
+        for sheet in [&spaces, &zeros] {
+            for user_id in [b"".as_slice(), b" ", &[b' '; 16], b"\0user"] {
+                assert_eq!(record_kept(sheet, user_id, 7), Ok(true), "{user_id:?}");
+            }
+        }
+    }
 }

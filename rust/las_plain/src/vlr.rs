@@ -139,6 +139,15 @@ mod tests {
     }
 
     #[test]
+    fn texts_padded_with_spaces_read_as_those_padded_with_zeros() {
+        let zeros = record(b"payload ");
+        let mut spaces = zeros.clone();
+        spaces[6..18].fill(b' ');
+        spaces[26..54].fill(b' ');
+        assert_eq!(Vlr::read(&spaces, 0), Vlr::read(&zeros, 0));
+    }
+
+    #[test]
     fn a_record_one_past_the_area_is_none() {
         let room = record(b"payload");
         assert_eq!(Vlr::read(&room[..room.len() - 1], 0), None);
