@@ -66,8 +66,8 @@ fn number_40_is_given_without_a_directory_of_that_cut_name_and_record_id() {
     }
     for (user, number) in [
         (b"LASF_Projection\0", 0),
+        (b"LASF_Projection ", 0),
         (b"LASF_Projection!", 40),
-        (b"LASF_Projection ", 40),
         (b"LASF_Projectio\0n", 40),
         (b"lasf_projection\0", 40),
         (b"\0ASF_Projection\0", 40),

@@ -17,10 +17,12 @@ const KEPT_NAMES: [(&[u8], u16); 4] = [
     (b"users", 7),
     (b"sixteen letters!", 7),
 ];
-const DROPPED_NAMES: [(&[u8], u16); 6] = [
+const DROPPED_NAMES: [(&[u8], u16); 8] = [
     (b"user", 9),
     (b"use", 7),
-    (b"user ", 7),
+    (b" user", 7),
+    (b"us er", 7),
+    (b"user\t", 7),
     (b"", 7),
     (b"sixteen letters?", 7),
     (b"LASF_Projection", 34735),
@@ -280,8 +282,8 @@ fn changed(
     (name.into(), spec)
 }
 
-/// The text with one byte changed, at each place before its cut, then one
-/// byte shorter, then one byte longer.
+/// The text with one byte changed, at each place before its cut, then a
+/// shorter one, then a longer one.
 fn changed_texts<const N: usize>(text: &[u8; N]) -> Vec<[u8; N]> {
     let length = cut(text).len();
     let set = |place: usize, byte: u8| {

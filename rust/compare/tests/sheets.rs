@@ -218,12 +218,12 @@ fn user_ids_of_any_length_are_cut_and_compared_whole() {
         (&tailed, b"user\0", 1),
         (&tailed, b"user\0another tail that is longer", 1),
         (&tailed, b"use", 0),
-        (&tailed, b"user ", 0),
+        (&tailed, b"user ", 1),
         (&tailed, b"user\x01and a tail.", 0),
         (&empty, b"", 1),
         (&empty, b"\0", 1),
         (&empty, b"\0\0anything", 1),
-        (&empty, b" ", 0),
+        (&empty, b" ", 1),
     ];
     for (sheet, user, kept) in cases {
         compared.case(format!("{user:?}"));
