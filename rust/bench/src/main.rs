@@ -12,6 +12,7 @@ mod each;
 mod growth;
 mod library;
 mod mendings;
+mod records;
 mod releases;
 mod report;
 mod sample;
@@ -58,6 +59,8 @@ fn compare(builds: &Builds) {
     growth::print(&rows, before);
     println!();
     mendings::compare(builds);
+    println!();
+    records::compare(builds);
     println!();
     calls::compare(builds);
 }

@@ -49,8 +49,11 @@ pub fn rows(builds: &Builds, sample: Sample) -> Vec<Row> {
 
 /// Times all sides with an output of this length, the front of the room.
 fn compare(builds: &Builds, file: &[u8], length: usize, rounds: usize, room: &mut [u8]) -> Medians {
-    let mut sides = vec![copy(file), plain(file, length)];
-    sides.extend(builds.all().map(|build| library(build, file, length)));
+    let mut sides = vec![copy(file), plain(file, &SHEET, length)];
+    let libraries = builds
+        .all()
+        .map(|build| library(build, file, &SHEET, length));
+    sides.extend(libraries);
     let found = medians(rounds, &sides, room);
     Medians {
         copy: found[0],
@@ -68,20 +71,22 @@ fn copy(file: &[u8]) -> Side<'_> {
     })
 }
 
-fn plain(file: &[u8], length: usize) -> Side<'_> {
+/// The release by las_plain, into an output of this length.
+pub fn plain<'a>(file: &'a [u8], sheet: &'a [u8], length: usize) -> Side<'a> {
     Box::new(move |room| {
         let out = cleared(room, length);
         time(|| {
-            black_box(las_plain::release(black_box(file), &SHEET, out)).ok();
+            black_box(las_plain::release(black_box(file), sheet, out)).ok();
         })
     })
 }
 
-fn library<'a>(build: &'a Library, file: &'a [u8], length: usize) -> Side<'a> {
+/// The release by a build, into an output of this length.
+pub fn library<'a>(build: &'a Library, file: &'a [u8], sheet: &'a [u8], length: usize) -> Side<'a> {
     Box::new(move |room| {
         let out = cleared(room, length);
         time(|| {
-            black_box(build.release(black_box(file), &SHEET, out));
+            black_box(build.release(black_box(file), sheet, out));
         })
     })
 }
