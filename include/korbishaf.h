@@ -22,8 +22,9 @@
  *   is a NaN is 0x7ff8000000000000.
  * - Flags are bytes: 0 is no, anything else is yes; an answer has 0 or 1.
  * - Places count bytes from the front of the file.
- * - A text field's meaning is its bytes before the first zero byte, or all of
- *   them if there is none: its cut. Texts have no zero byte behind them here.
+ * - A text field's meaning is its cut: its bytes before the first zero byte, or
+ *   all of them if there is none, without the spaces (0x20) at their end. A text
+ *   of spaces is empty. Texts have no zero byte behind them here.
  *
  * Numbers:
  *
@@ -171,7 +172,8 @@ typedef struct {
 
 /* The functions. Any pointer may be null where the length after it is 0. */
 
-/* The number of the last change request that is in: 0 for the base, 1 with las_mend. */
+/* The number of the last change request that is in: 0 for the base, 1 with las_mend, 2 where a text's cut has no spaces
+ * at its end. */
 uint64_t las_level(void);
 
 /* 0 if the file passes, otherwise 1 to 10. */
@@ -207,8 +209,8 @@ uint64_t las_coordinate(int32_t stored, uint64_t scale, uint64_t offset);
 /* Whether the sheet keeps points of that class. Numbers: 20 to 24. */
 las_kept las_class_kept(const uint8_t *sheet, uint64_t sheet_length, uint8_t class_byte);
 
-/* Whether the sheet keeps records of that user ID and record ID. The user ID has any number of bytes, and
- * is cut as any text. Numbers: 20 to 24. */
+/* Whether the sheet keeps records of that user ID and record ID. The user ID has any number of bytes, and is cut as any
+ * text; so are the sheet's. Numbers: 20 to 24. */
 las_kept las_record_kept(const uint8_t *sheet, uint64_t sheet_length, const uint8_t *user, uint64_t user_length,
                          uint16_t record_id);
 
@@ -216,8 +218,8 @@ las_kept las_record_kept(const uint8_t *sheet, uint64_t sheet_length, const uint
 las_geokey las_geokey_find(const uint8_t *file, uint64_t file_length, uint16_t key);
 
 /* Writes what the sheet keeps of the file to `out`, which overlaps no other argument, as a file of its own, and
- * zeros behind it. An output as long as the file is never too short; an empty one asks for the needed length,
- * by 30. Numbers: 1 to 10, 20 to 24, 30. */
+ * zeros behind it. Of a text field it has the cut, and zeros behind that. An output as long as the file is never too
+ * short; an empty one asks for the needed length, by 30. Numbers: 1 to 10, 20 to 24, 30. */
 las_released las_release(const uint8_t *file, uint64_t file_length, const uint8_t *sheet, uint64_t sheet_length,
                          uint8_t *out, uint64_t out_length);
 

@@ -40,4 +40,11 @@ static int refusal(const void *answer, size_t size, uint64_t number)
     return first == number;
 }
 
+/* Writes a number to so many bytes, the lowest first. */
+static inline void put(uint8_t *at, int width, uint64_t number)
+{
+    for (int i = 0; i < width; i++)
+        at[i] = (uint8_t)(number >> (8 * i));
+}
+
 #endif

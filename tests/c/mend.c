@@ -19,12 +19,6 @@ static const uint64_t right[MARKS] = {3, 1, 1, 0, 0, 0, 0x4023000000000000, 0x40
 static uint8_t around[GUARD + LENGTH + GUARD];
 static uint8_t *const file = around + GUARD;
 
-static void put(uint8_t *at, int width, uint64_t number)
-{
-    for (int i = 0; i < width; i++)
-        at[i] = (uint8_t)(number >> (8 * i));
-}
-
 static void set(const uint64_t values[MARKS])
 {
     for (int i = 0; i < MARKS; i++)
