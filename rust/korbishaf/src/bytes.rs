@@ -37,7 +37,7 @@ pub fn class_kept(sheet: &[u8], class: u8) -> Result<bool, Error> {
 }
 
 /// Whether a sheet keeps the variable length records of a user ID and a record ID. The user ID has any number of
-/// bytes; those from the first zero byte on do not count.
+/// bytes; it and the sheet's own are [cut](crate#texts).
 ///
 /// # Errors
 ///

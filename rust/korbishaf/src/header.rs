@@ -49,7 +49,7 @@ impl fmt::Display for Guid {
 
 /// The fields of a header, as the file states them: its counts and bounds may be wrong about its points.
 ///
-/// Texts are parts of the file, cut at their first zero byte. Triples stand in the order X, Y, Z.
+/// Texts are parts of the file, [cut](crate#texts). Triples stand in the order X, Y, Z.
 #[derive(Clone, Debug, PartialEq)]
 pub struct Header<'a> {
     /// The file source ID.

@@ -15,6 +15,23 @@
 //! `rt staticlib capi` writes it; by a crate that `./install` has put to `PREFIX/share/korbishaf/rust/korbishaf`, from
 //! `PREFIX/lib`.
 //!
+//! # Texts
+//!
+//! User IDs, descriptions and the header's texts stand in fields of a fixed width. A text is the field's *cut*: its
+//! bytes before the first zero byte, or all of them, without the spaces at their end, which a maker may fill fields
+//! with. That holds in files, in sheets and for a user ID that is asked about:
+//!
+//! ```
+//! use korbishaf::{Sheet, record_kept};
+//!
+//! let sheet = Sheet::from_text("record yard 7")?;
+//! assert!(record_kept(&sheet, b"yard            ", 7));
+//! assert!(record_kept(&sheet, b"yard  \0 junk", 7));
+//! assert!(!record_kept(&sheet, b" yard", 7));
+//! assert_eq!(Sheet::from_text("record \"yard \" 7")?, sheet);
+//! # Ok::<(), korbishaf::TextError>(())
+//! ```
+//!
 //! # Example
 //!
 //! A file of two points, made here in memory, and a sheet that keeps one of them:
@@ -63,6 +80,7 @@ mod records;
 mod release;
 mod sheet;
 pub mod sys;
+mod text_field;
 
 pub use error::{Error, ErrorKind, refusal_words};
 pub use geokeys::{GeoKeyValue, geokey};
@@ -76,7 +94,10 @@ pub use sheet::{
     record_kept,
 };
 
-/// The number of the last change request that is in the library: 0 for the base, 1 with [`mend`].
+use text_field::cut;
+
+/// The number of the last change request that is in the library: 0 for the base, 1 with [`mend`], 2 where texts are cut
+/// before the spaces at their end.
 #[must_use]
 pub fn level() -> u64 {
     sys::las_level()
@@ -85,12 +106,6 @@ pub fn level() -> u64 {
 /// The part of a file at a place and of a length that the library answered for that same file, and so in it.
 fn part(file: &[u8], place: u64, length: u64) -> &[u8] {
     &file[narrow(place)..][..narrow(length)]
-}
-
-/// A text field's meaning: its bytes before the first zero byte, or all of them.
-fn cut(field: &[u8]) -> &[u8] {
-    let length = field.iter().take_while(|&&byte| byte != 0).count();
-    &field[..length]
 }
 
 /// A number that the library answered, in the type of the field that it was read from.

@@ -8,11 +8,11 @@ use std::iter::FusedIterator;
 /// A variable length record. Its texts and its payload are parts of the file.
 #[derive(Clone, Copy, Debug, PartialEq, Eq, Hash)]
 pub struct Record<'a> {
-    /// The user ID, cut at its first zero byte.
+    /// The user ID, [cut](crate#texts).
     pub user_id: &'a [u8],
     /// The record ID.
     pub record_id: u16,
-    /// The description, cut at its first zero byte.
+    /// The description, [cut](crate#texts).
     pub description: &'a [u8],
     /// The payload.
     pub payload: &'a [u8],
@@ -120,6 +120,17 @@ mod tests {
     use super::*;
     use crate::error::ANSWERS;
 
+    /// Fields of user IDs, as files may have them; a description's field is two of them, side by side.
+    const USER_IDS: [&[u8; 16]; 7] = [
+        b"user\0\0\0\0\0\0\0\0\0\0\0\0",
+        b"user            ",
+        b"user   \0 x      ",
+        b" us er \0\0\0\0\0\0\0\0\0",
+        b"                ",
+        b"\0             x ",
+        b"           user\t",
+    ];
+
     /// A file of that many records, whose payloads have 0 to 2 bytes, and no points.
     fn file(count: u32) -> Vec<u8> {
         let mut file = vec![0; 227];
@@ -134,7 +145,10 @@ mod tests {
         for index in 0..count {
             let length = (index % 3) as u8;
             let mut header = [0; 54];
-            header[2..6].copy_from_slice(b"user");
+            let [one, other] = [index, index / 7].map(|index| USER_IDS[index as usize % 7]);
+            header[2..18].copy_from_slice(one);
+            header[22..38].copy_from_slice(one);
+            header[38..54].copy_from_slice(other);
             header[18..20].copy_from_slice(&(index as u16).to_le_bytes());
             header[20] = length;
             file.extend(header);

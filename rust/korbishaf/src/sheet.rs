@@ -95,7 +95,8 @@ impl Sheet {
     ///   (12), in any case and with `-` or `_`;
     /// - `record LASF_Projection 34735`: a user ID of at most 16 bytes and a record ID from 0 to 65535. A user ID that
     ///   is empty or has a blank, a quote, a `#`, a backslash, a control or a byte that is not ASCII stands in double
-    ///   quotes, in which `\"`, `\\` and `\xNN` (two hexadecimal digits, not `\x00`) stand for a byte;
+    ///   quotes, in which `\"`, `\\` and `\xNN` (two hexadecimal digits, not `\x00`) stand for a byte. Spaces at its
+    ///   end do not count;
     /// - blank, or a comment from `#` on, which may also follow on one of the others.
     ///
     /// Words are parted by spaces or tabs. A byte order mark before the text is skipped.
@@ -138,7 +139,7 @@ impl Sheet {
     ///
     /// A text that is read and written again has the same lines: its comments and its layout are gone, and a class that
     /// it had by name is there by number, `class 2` for `class ground`. Bytes that are written as a text and read again
-    /// are a sheet that keeps the same: what stood behind the first zero byte of a user ID is gone.
+    /// are a sheet that keeps the same: what stood behind the end of a user ID is gone.
     #[must_use]
     pub fn to_text(&self) -> String {
         self.to_string()
@@ -186,7 +187,7 @@ pub fn class_kept(sheet: &Sheet, class: u8) -> bool {
 }
 
 /// Whether a sheet keeps the variable length records of a user ID and a record ID. The user ID has any number of
-/// bytes; those from the first zero byte on do not count.
+/// bytes; it and the sheet's own are [cut](crate#texts).
 ///
 /// ```
 /// use korbishaf::{Line, Sheet, record_kept};

@@ -182,7 +182,8 @@ pub struct las_header {
 }
 
 unsafe extern "C" {
-    /// The number of the last change request that is in: 0 for the base, 1 with `las_mend`.
+    /// The number of the last change request that is in: 0 for the base, 1 with `las_mend`, 2 where a text's cut has
+    /// no spaces at its end.
     pub safe fn las_level() -> u64;
 
     /// 0 if the file passes, otherwise 1 to 10.

@@ -178,6 +178,7 @@ fn damaged_files() {
                 0,
                 1,
                 3,
+                b' ',
                 0x7F,
                 0x80,
                 0xFF,
@@ -208,7 +209,7 @@ fn damaged_and_cut_sheets() {
         let (file, sheet) = card(name);
         for place in 0..sheet.len() {
             try_all(&file, &sheet[..place]);
-            for byte in [0, 1, 2, 3, 0x7F, 0x80, 0xFF, sheet[place] ^ 1] {
+            for byte in [0, 1, 2, 3, b' ', 0x7F, 0x80, 0xFF, sheet[place] ^ 1] {
                 let mut sheet = sheet.clone();
                 sheet[place] = byte;
                 try_all(&file, &sheet);

@@ -49,7 +49,7 @@ impl Random {
 
     /// A text of words that belong into one, in any order.
     fn text(&mut self) -> Vec<u8> {
-        const WORDS: [&[u8]; 28] = [
+        const WORDS: [&[u8]; 29] = [
             b"class",
             b"record",
             b"clas",
@@ -66,6 +66,7 @@ impl Random {
             b"\\",
             b"\\x41",
             b"\"my survey\"",
+            b"\"yard  \"",
             b"#",
             b"\n",
             b"\n",
@@ -101,14 +102,17 @@ fn lines_to_text_to_lines() {
     }
 }
 
-/// Bytes of lines whose user IDs have other bytes behind their first zero.
+/// Bytes of lines whose user IDs have spaces before their first zero and other bytes behind it.
 #[test]
 fn bytes_to_text_to_bytes_keep_the_same() {
     let mut random = Random(2);
     for _ in 0..INPUTS / 10 {
-        let (field, record_id) = (random.bytes(16), random.next() as u16);
-        let mut field = field;
-        field[random.below(16)] = 0;
+        let (mut field, record_id) = (random.bytes(16), random.next() as u16);
+        let zero = random.below(16);
+        let spaces = random.below(zero + 1);
+        field[zero - spaces..zero].fill(b' ');
+        field[zero] = 0;
+        let name = &field[..zero - spaces];
         let (lowest, highest) = (random.byte() / 2, 128 + random.byte() / 2);
         let mut bytes = [&b"KS\x01"[..], &[lowest, highest], b"KS\x02", &field].concat();
         bytes.extend(record_id.to_le_bytes());
@@ -117,8 +121,10 @@ fn bytes_to_text_to_bytes_keep_the_same() {
         assert!(again.lines().eq(sheet.lines()));
         assert!((0..=255).all(|class| class_kept(&again, class) == class_kept(&sheet, class)));
         for id in [record_id, record_id ^ 1] {
-            assert_eq!(record_kept(&again, &field, id), id == record_id);
-            assert_eq!(record_kept(&sheet, &field, id), id == record_id);
+            for user_id in [&*field, name] {
+                assert_eq!(record_kept(&again, user_id, id), id == record_id);
+                assert_eq!(record_kept(&sheet, user_id, id), id == record_id);
+            }
         }
     }
 }

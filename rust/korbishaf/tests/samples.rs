@@ -107,7 +107,7 @@ fn number<T: std::fmt::Debug>(answer: Result<T, korbishaf::Error>) -> u64 {
 
 #[test]
 fn level() {
-    assert_eq!(korbishaf::level(), 1);
+    assert_eq!(korbishaf::level(), 2);
 }
 
 #[test]
@@ -173,12 +173,27 @@ fn sheets_p3_to_p6() {
 #[test]
 fn kept_records() {
     let someone = *b"KS\x02someone\0and more\x07\x00";
+    let padded = *b"KS\x02someone         \x07\x00";
+    let spaces = *b"KS\x02                \x07\x00";
     for (lines, user_id, record_id, kept) in [
         (&someone[..], &b"someone"[..], 7, true),
         (&someone, b"someone\0else", 7, true),
         (&someone, b"someone", 8, false),
         (&someone, b"someon", 7, false),
         (&someone, b"", 7, false),
+        (&someone, b"someone  ", 7, true),
+        (&someone, b"someone                       ", 7, true),
+        (&someone, b"someone  \0else", 7, true),
+        (&someone, b"someone else ", 7, false),
+        (&someone, b" someone", 7, false),
+        (&someone, b"someone\t", 7, false),
+        (&padded, b"someone", 7, true),
+        (&padded, b"someone ", 7, true),
+        (&padded, b"someone", 8, false),
+        (&spaces, b"", 7, true),
+        (&spaces, b"   ", 7, true),
+        (&spaces, b" \0x", 7, true),
+        (&spaces, b" x", 7, false),
         (&[], b"someone", 7, false),
     ] {
         assert_eq!(bytes::record_kept(lines, user_id, record_id), Ok(kept));
@@ -396,6 +411,46 @@ fn a_walk() {
     assert_eq!(korbishaf::records(&file(&[], 0, &[])).unwrap().count(), 0);
 }
 
+/// The file of sample P9 with texts that are padded with spaces. The record's description is spaces alone.
+fn padded() -> Vec<u8> {
+    let mut file = p9();
+    file[26..58].copy_from_slice(b"a system                        ");
+    file[58..90].copy_from_slice(b" two words   \0 junk             ");
+    file[229..245].copy_from_slice(b"someone         ");
+    file[249..281].copy_from_slice(&[b' '; 32]);
+    file
+}
+
+#[test]
+fn texts_padded_with_spaces() {
+    let file = padded();
+    let header = korbishaf::read_header(&file).unwrap();
+    assert_eq!(header.system_identifier, b"a system");
+    assert_eq!(header.generating_software, b" two words");
+    let wanted = Record {
+        user_id: b"someone",
+        record_id: 7,
+        description: b"",
+        payload: b"0123456789",
+    };
+    assert!(korbishaf::records(&file).unwrap().eq([wanted]));
+    assert_eq!(korbishaf::step(&file, 0, 227).unwrap().record, wanted);
+}
+
+#[test]
+fn a_release_has_zeros_where_texts_were_padded_with_spaces() {
+    let sheet = Sheet::from_text("record someone 7").unwrap();
+    let out = korbishaf::release_to_vec(&padded(), &sheet).unwrap();
+    assert_eq!(out.len(), 291);
+    assert_eq!(out[26..34], *b"a system");
+    assert_eq!(out[34..58], [0; 24]);
+    assert_eq!(out[58..68], *b" two words");
+    assert_eq!(out[68..90], [0; 22]);
+    assert_eq!(out[227..245], *b"\0\0someone\0\0\0\0\0\0\0\0\0");
+    assert_eq!(out[249..281], [0; 32]);
+    assert_eq!(out[281..], *b"0123456789");
+}
+
 #[test]
 fn points_of_a_file() {
     let file = p9();
@@ -417,14 +472,26 @@ fn points_of_a_file() {
     assert_eq!(number(korbishaf::point_at(&file, u64::MAX)), 11);
 }
 
+fn words(words: &[u16]) -> Vec<u8> {
+    words.iter().flat_map(|word| word.to_le_bytes()).collect()
+}
+
+#[test]
+fn geokeys_of_a_padded_name() {
+    let directory = words(&[1, 1, 0, 2, 1024, 0, 1, 2, 1026, 34737, 4, 5]);
+    let records = [
+        record(b"LASF_Projection ", 34735, b"keys", &directory),
+        record(b"LASF_Projection ", 34737, b"texts", b"Name|    "),
+    ];
+    let file = file(&records, 0, &[]);
+    assert_eq!(korbishaf::geokey(&file, 1024), Ok(GeoKeyValue::Short(2)));
+    // a key's text is payload and no text field
+    let text = GeoKeyValue::Text(b"    ");
+    assert_eq!(korbishaf::geokey(&file, 1026), Ok(text));
+}
+
 #[test]
 fn geokeys() {
-    let words = |words: &[u16]| {
-        words
-            .iter()
-            .flat_map(|word| word.to_le_bytes())
-            .collect::<Vec<u8>>()
-    };
     let directory = words(&[
         1, 1, 0, 9, // version, revision, number of keys
         1024, 0, 1, 2, // a short

@@ -107,6 +107,34 @@ fn user_ids() {
 }
 
 #[test]
+fn spaces_at_the_end_of_a_user_id_do_not_count() {
+    assert_eq!(UserId::new("yard ").unwrap().as_bytes(), b"yard");
+    assert_eq!(UserId::new("yard  \0 x"), UserId::new("yard"));
+    assert_eq!(UserId::new(" ya rd "), UserId::new(" ya rd"));
+    assert_ne!(UserId::new(" yard"), UserId::new("yard"));
+    assert_eq!(UserId::new("    "), Ok(UserId::default()));
+    assert_eq!(UserId::new("yard\t").unwrap().as_bytes(), b"yard\t");
+    let longest = "0123456789abcdef";
+    assert_eq!(UserId::new(format!("{longest}     ")), UserId::new(longest));
+    let length = |user_id: String| UserId::new(user_id).unwrap_err().length();
+    assert_eq!(length(format!("{longest}g     ")), 17);
+    assert_eq!(length(format!("{longest} g")), 18);
+}
+
+/// A sheet's bytes stay as they are, and its lines have the names that count.
+#[test]
+fn lines_of_bytes_with_padded_names() {
+    let bytes = b"KS\x02yard            \x07\0KS\x02                \x08\0";
+    let sheet = Sheet::from_bytes(*bytes).unwrap();
+    assert_eq!(sheet.as_bytes(), bytes);
+    assert!(sheet.lines().eq([record("yard", 7), record("", 8)]));
+    assert_eq!(sheet.to_text(), "record yard 7\nrecord \"\" 8\n");
+    let again = Sheet::from_lines(sheet.lines()).unwrap();
+    let zeros = bytes.map(|byte| if byte == b' ' { 0 } else { byte });
+    assert_eq!(again.as_bytes(), zeros);
+}
+
+#[test]
 fn the_form_is_recognised() {
     assert_eq!(
         Sheet::read(TWO_LINES),

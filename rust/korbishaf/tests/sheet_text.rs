@@ -92,6 +92,10 @@ fn quoted_user_ids() {
         (r#""M\xFCller\x0a\x7F""#, b"M\xFCller\n\x7F"),
         (r#""\x41\x4a\x4B""#, b"AJK"),
         (r#""0123456789abcde\xFF""#, b"0123456789abcde\xFF"),
+        (r#""0123456789abcdef     ""#, b"0123456789abcdef"),
+        (r#"" ya rd    ""#, b" ya rd"),
+        (r#""yard\x20""#, b"yard"),
+        (r#""   ""#, b""),
     ] {
         let text = format!("record {quoted} 7");
         assert_eq!(lines(&text), [record(user_id, 7)], "{text}");
@@ -101,7 +105,7 @@ fn quoted_user_ids() {
 #[test]
 fn user_ids_are_quoted_where_they_cannot_stand_bare() {
     for byte in 1..=255u8 {
-        let user_id = [b'a', byte];
+        let user_id = [byte, b'a'];
         let line = record(user_id, 7);
         let text = line.to_string();
         let bare = (b'!'..=b'~').contains(&byte) && !b"\"#\\".contains(&byte);
@@ -114,7 +118,9 @@ fn user_ids_are_quoted_where_they_cannot_stand_bare() {
     }
     for (user_id, written) in [
         (&b""[..], r#""""#),
-        (b" ", r#"" ""#),
+        (b" ", r#""""#),
+        (b" a ", r#"" a""#),
+        (b"yard    ", "yard"),
         (b"a\"b", r#""a\"b""#),
         (b"a\\b", r#""a\\b""#),
         (b"a#b", r#""a#b""#),

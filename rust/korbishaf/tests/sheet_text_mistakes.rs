@@ -170,6 +170,7 @@ fn records() {
         &[
             ("record 0123456789abcdefg 7", 8, "17"),
             (r#"record "0123456789abcde\x41\"" 7"#, 8, "17"),
+            (r#"record "0123456789abcdefg    " 7"#, 8, "17"),
         ],
     );
 }
@@ -230,7 +231,10 @@ fn escapes() {
     );
     all_mistaken(
         "expected no zero byte, since a user ID ends before its first",
-        &[("record \"a\\x00\" 7", 10, "")],
+        &[
+            ("record \"a\\x00\" 7", 10, ""),
+            ("record \"a  \\x00\" 7", 12, ""),
+        ],
     );
 }
 

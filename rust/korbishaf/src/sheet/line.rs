@@ -55,7 +55,7 @@ impl Line {
     ///
     /// # Errors
     ///
-    /// Where the user ID has more than 16 bytes.
+    /// Where more than 16 bytes of the user ID count.
     pub fn record(user_id: impl AsRef<[u8]>, record_id: u16) -> Result<Self, LongUserId> {
         let user_id = UserId::new(user_id)?;
         Ok(Line::Record { user_id, record_id })

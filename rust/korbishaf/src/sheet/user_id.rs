@@ -6,7 +6,7 @@ use std::fmt;
 /// The width of the field that a user ID stands in.
 const WIDTH: usize = 16;
 
-/// A user ID: at most 16 bytes, none of them zero.
+/// A user ID: at most 16 bytes, none of them zero, and no space at their end.
 ///
 /// It shows itself as a sheet's text has it: bare, or in double quotes where it cannot stand bare.
 ///
@@ -25,11 +25,20 @@ pub struct UserId {
 }
 
 impl UserId {
-    /// The user ID of these bytes, of which those from the first zero byte on do not count.
+    /// The user ID of these bytes, of which those beyond their [cut](crate#texts) do not count.
     ///
     /// # Errors
     ///
     /// Where more than 16 bytes count.
+    ///
+    /// ```
+    /// use korbishaf::UserId;
+    ///
+    /// assert_eq!(UserId::new("yard    ")?, UserId::new("yard")?);
+    /// assert_eq!(UserId::new("sixteen letters!     ")?.as_bytes(), b"sixteen letters!");
+    /// assert_eq!(UserId::new("seventeen letters     ").unwrap_err().length(), 17);
+    /// # Ok::<(), korbishaf::LongUserId>(())
+    /// ```
     pub fn new(user_id: impl AsRef<[u8]>) -> Result<Self, LongUserId> {
         let user_id = cut(user_id.as_ref());
         let length = user_id.len();
@@ -80,14 +89,14 @@ impl fmt::Debug for UserId {
     }
 }
 
-/// A user ID that is too long: more than 16 bytes.
+/// A user ID that is too long: more than 16 bytes of it count.
 #[derive(Clone, Copy, PartialEq, Eq, Hash)]
 pub struct LongUserId {
     length: usize,
 }
 
 impl LongUserId {
-    /// The number of its bytes.
+    /// The number of its bytes that count.
     #[must_use]
     pub fn length(&self) -> usize {
         self.length
