@@ -157,7 +157,7 @@ fn a_directory_without_the_parameters_that_its_keys_point_to() {
 #[test]
 fn records_whose_names_a_line_nearly_has() {
     let mut file = of_classes(&[2, 6]);
-    for user_id in [&b"yard"[..], b"Yard", b"yard ", b" ya rd", b"yards"] {
+    for user_id in [&b"yard"[..], b"Yard", b"yard\t", b" ya rd", b"yards"] {
         file.records.push(record(user_id, 7, 1));
     }
     file.records.push(record(b"YARD", 8, 1));
@@ -169,7 +169,7 @@ fn records_whose_names_a_line_nearly_has() {
     };
     let wanted = [
         near(2, "\"Yard\""),
-        near(3, "\"yard \""),
+        near(3, "\"yard\\x09\""),
         near(4, "\" ya rd\""),
     ];
     assert_eq!(warnings(&file, "class 2\nrecord yard 7"), wanted);

@@ -19,8 +19,8 @@ fn not_verified(change: impl FnOnce(&mut FileSpec), lines: &str) {
 fn the_file_of_a_card_has_nearly_everything() {
     let scratch = Scratch::with_card("yard");
     let wanted = r#"in.las: not verified: byte 34, system identifier: "scanner\x00client 4711", a release has "scanner"
-  byte 34: 11 bytes behind the zero of the system identifier: "client 4711"
-  byte 69: 11 bytes behind the zero of the generating software: "client 4711"
+  byte 34: 11 bytes behind the end of the system identifier: "client 4711"
+  byte 69: 11 bytes behind the end of the generating software: "client 4711"
   byte 111: the number of points of return 1 is wrong: 9 stated, 3 actual
   byte 115: the number of points of return 2 is wrong: 9 stated, 2 actual
   byte 119: the number of points of return 3 is wrong: 9 stated, 2 actual
@@ -35,8 +35,8 @@ fn the_file_of_a_card_has_nearly_everything() {
   byte 227: 13 extra header bytes
   byte 240: record 1 of 3 (user ID "yardcrew", record ID 1), 68 bytes: the sheet does not keep it
   byte 308: the reserved bytes of record 2 of 3 (user ID "yard", record ID 7): BB AA
-  byte 315: 1 byte behind the zero of the user ID of record 2 of 3 (user ID "yard", record ID 7): "J"
-  byte 343: 1 byte behind the zero of the description of record 2 of 3 (user ID "yard", record ID 7): "J"
+  byte 315: 1 byte behind the end of the user ID of record 2 of 3 (user ID "yard", record ID 7): "J"
+  byte 343: 1 byte behind the end of the description of record 2 of 3 (user ID "yard", record ID 7): "J"
   byte 386: record 3 of 3 (user ID "yard", record ID 8), 69 bytes: the sheet does not keep it
   byte 455: 9 bytes between the records and the points
   byte 492: 3 points of class 5 (high-vegetation), 84 bytes: the sheet does not keep them; the first has index 1
@@ -87,34 +87,63 @@ fn a_count_that_is_too_low_hides_a_point() {
 }
 
 #[test]
-fn bytes_behind_the_zeros_of_texts_are_found() {
+fn bytes_behind_the_ends_of_texts_are_found() {
     not_verified(
         |spec| spec.system = padded(b"scanner\0\0junk"),
         "byte 35, system identifier: \"scanner\\x00\\x00junk\", a release has \"scanner\"\n  \
-         byte 35: 4 bytes behind the zero of the system identifier: \"junk\"",
+         byte 35: 4 bytes behind the end of the system identifier: \"junk\"",
     );
     not_verified(
         |spec| spec.software = padded(b"cutter 1.0\0\x1B[2J"),
         "byte 69, generating software: \"cutter 1.0\\x00\\x1B[2J\", a release has \"cutter 1.0\"\n  \
-         byte 69: 4 bytes behind the zero of the generating software: \"\\x1B[2J\"",
+         byte 69: 4 bytes behind the end of the generating software: \"\\x1B[2J\"",
     );
 }
 
 #[test]
-fn bytes_behind_the_zeros_of_a_records_texts_are_found() {
+fn bytes_behind_the_ends_of_a_records_texts_are_found() {
     let of = "of record 1 of 1 (user ID \"yard\", record ID 7)";
     not_verified(
         |spec| spec.records[0].user = padded(b"yard\0x"),
         &format!(
             "byte 234, user ID {of}: \"yard\\x00x\", a release has \"yard\"\n  \
-             byte 234: 1 byte behind the zero of the user ID {of}: \"x\""
+             byte 234: 1 byte behind the end of the user ID {of}: \"x\""
         ),
     );
     not_verified(
         |spec| spec.records[0].description = padded(b"outline\0of Mill Lane"),
         &format!(
             "byte 257, description {of}: \"outline\\x00of Mill Lane\", a release has \"outline\"\n  \
-             byte 257: 12 bytes behind the zero of the description {of}: \"of Mill Lane\""
+             byte 257: 12 bytes behind the end of the description {of}: \"of Mill Lane\""
+        ),
+    );
+}
+
+#[test]
+fn spaces_at_the_ends_of_texts_are_found() {
+    not_verified(
+        |spec| spec.system = padded(b"scanner  "),
+        "byte 33, system identifier: \"scanner  \", a release has \"scanner\"\n  \
+         byte 33: 2 bytes behind the end of the system identifier: \"  \"",
+    );
+    not_verified(
+        |spec| spec.software = padded(b"cutter 1.0  \0 x"),
+        "byte 68, generating software: \"cutter 1.0  \\x00 x\", a release has \"cutter 1.0\"\n  \
+         byte 68: 5 bytes behind the end of the generating software: \"  \\x00 x\"",
+    );
+    let of = "of record 1 of 1 (user ID \"yard\", record ID 7)";
+    not_verified(
+        |spec| spec.records[0].user = *b"yard            ",
+        &format!(
+            "byte 233, user ID {of}: \"yard            \", a release has \"yard\"\n  \
+             byte 233: 12 bytes behind the end of the user ID {of}: \"            \""
+        ),
+    );
+    not_verified(
+        |spec| spec.records[0].description = padded(b"   "),
+        &format!(
+            "byte 249, description {of}: \"   \", a release has \"\"\n  \
+             byte 249: 3 bytes behind the end of the description {of}: \"   \""
         ),
     );
 }
@@ -126,7 +155,7 @@ fn the_last_byte_of_a_text_field_counts_too() {
         |spec| spec.system[31] = b'!',
         &format!(
             "byte 57, system identifier: \"scanner{}!\", a release has \"scanner\"\n  \
-             byte 57: 1 byte behind the zero of the system identifier: \"!\"",
+             byte 57: 1 byte behind the end of the system identifier: \"!\"",
             "\\x00".repeat(24)
         ),
     );
@@ -134,7 +163,7 @@ fn the_last_byte_of_a_text_field_counts_too() {
         |spec| spec.records[0].user[15] = b'!',
         &format!(
             "byte 244, user ID {of}: \"yard{}!\", a release has \"yard\"\n  \
-             byte 244: 1 byte behind the zero of the user ID {of}: \"!\"",
+             byte 244: 1 byte behind the end of the user ID {of}: \"!\"",
             "\\x00".repeat(11)
         ),
     );
@@ -142,7 +171,7 @@ fn the_last_byte_of_a_text_field_counts_too() {
         |spec| spec.records[0].description[31] = b'!',
         &format!(
             "byte 280, description {of}: \"outline{}!\", a release has \"outline\"\n  \
-             byte 280: 1 byte behind the zero of the description {of}: \"!\"",
+             byte 280: 1 byte behind the end of the description {of}: \"!\"",
             "\\x00".repeat(24)
         ),
     );

@@ -168,6 +168,21 @@ fn each_kind_of_finding_has_members_of_its_own() {
 }
 
 #[test]
+fn spaces_at_the_end_of_a_text_are_its_tail() {
+    let (scratch, _) = shelf();
+    let mut file = clean();
+    file.records[0].user = *b"yard            ";
+    scratch.write("padded.las", file.bytes());
+    let all = read(&scratch.says("verify --json padded.las sheet.txt").out);
+    let words = r#"12 bytes behind the end of the user ID of record 1 of 1 (user ID \"yard\", record ID 7)"#;
+    let wanted = format!(
+        r#"[{{ "what": "text_tail", "place": 233, "length": 12, "words": "{words}: \"            \"",
+               "part": "user ID", "text": "            ", "record": 1, "user_id": "yard", "record_id": 7 }}]"#
+    );
+    assert_eq!(all.at("files/0/findings"), &read(&wanted));
+}
+
+#[test]
 fn many_findings_in_records_are_counted() {
     let (scratch, _) = shelf();
     let mut file = clean();

@@ -28,8 +28,9 @@ Says what a release of the scan IN under the keep sheet SHEET would have, and wr
 out, what stays, what is published whatever the sheet says, and warnings. The status is 0 with warnings
 too. What a release would refuse is refused, with the reason in words on standard error.
 
-A release has every byte of a point that goes out, and of a record all but its reserved field. What
-stands behind the first zero byte of a text field stays, and counts and bounds are worked out anew.
+A release has every byte of a point that goes out, and of a record all but its reserved field. Of a
+text field, what stands from its first zero byte on stays, and so do the spaces before that. Counts and
+bounds are worked out anew.
 
 It warns of
 

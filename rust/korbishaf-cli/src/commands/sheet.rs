@@ -28,7 +28,9 @@ A text has lines like these; what follows a '#' is a comment:
   record LASF_Projection 34735   records with that user ID and record ID
   record \"my survey\" 7           a user ID with a blank stands in double quotes
 
-A sheet has at most 64 lines; an empty one keeps nothing.
+Spaces at the end of a user ID do not count, neither here nor in a scan: 'record yard 7' also keeps the
+records of a maker who fills user IDs with spaces. A sheet has at most 64 lines; an empty one keeps
+nothing.
 ",
     run,
 };

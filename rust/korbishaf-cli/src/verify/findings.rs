@@ -26,7 +26,7 @@ pub struct Finding {
 /// What it is.
 #[derive(Debug)]
 pub enum What {
-    /// Bytes behind the zero that ends a text.
+    /// Bytes of a text field behind the end of its text.
     TextTail {
         field: &'static str,
         record: Option<Name>,

@@ -1,14 +1,23 @@
 //! Findings in the header: behind its texts, and behind its 227 bytes.
 
-use super::{Finding, What, all_zero, tail};
+use super::tail::{self, TextField};
+use super::{Finding, What, all_zero};
 use crate::layout::{GENERATING_SOFTWARE, HEADER, SYSTEM_IDENTIFIER};
 use korbishaf::Header;
 
 pub fn find(file: &[u8], header: &Header<'_>) -> Vec<Finding> {
-    let texts = [SYSTEM_IDENTIFIER, GENERATING_SOFTWARE];
-    let tails = texts.iter().filter_map(|field| {
-        let bytes = field.bytes(file)?;
-        tail::find(bytes, field.place, field.name, None)
+    let texts = [
+        (SYSTEM_IDENTIFIER, header.system_identifier),
+        (GENERATING_SOFTWARE, header.generating_software),
+    ];
+    let tails = texts.into_iter().filter_map(|(field, text)| {
+        let field = TextField {
+            name: field.name,
+            place: field.place,
+            bytes: field.bytes(file)?,
+            text,
+        };
+        tail::find(&field, None)
     });
     tails.chain(extra(file, header)).collect()
 }

@@ -1,9 +1,10 @@
 //! Findings in the records.
 
 use super::super::records::{self, Placed};
-use super::{Finding, What, all_zero, tail};
+use super::tail::{self, TextField};
+use super::{Finding, What, all_zero};
 use crate::layout::Value;
-use korbishaf::{Header, Sheet, record_kept};
+use korbishaf::{Header, Record, Sheet, record_kept};
 
 /// How many findings in records are listed. A file can have millions, which nobody would read.
 const MOST: usize = 32;
@@ -37,32 +38,59 @@ pub fn find(file: &[u8], header: &Header<'_>, sheet: &Sheet) -> (Vec<Finding>, u
 
 /// A record that is not kept is one finding; of one that is kept, what a release does not copy.
 fn in_record(file: &[u8], placed: &Placed<'_>, sheet: &Sheet) -> Vec<Finding> {
-    let (place, name) = (placed.place, &placed.name);
-    if !record_kept(sheet, placed.record.user_id, placed.record.record_id) {
+    let Record {
+        user_id,
+        record_id,
+        description,
+        ..
+    } = placed.record;
+    if !record_kept(sheet, user_id, record_id) {
         return vec![Finding {
-            place,
+            place: placed.place,
             length: placed.length(),
             what: What::RecordNotKept {
-                record: name.clone(),
+                record: placed.name.clone(),
             },
         }];
     }
-    let field = |at: usize, width: usize| file.get(place..)?.get(at..)?.get(..width);
-    let reserved = field(0, 2).filter(|bytes| !all_zero(bytes));
-    let reserved = reserved.map(|bytes| Finding {
-        place,
+    let in_fields = [
+        reserved(file, placed),
+        behind_text(file, placed, ("user ID", 2, 16), user_id),
+        behind_text(file, placed, ("description", 22, 32), description),
+    ];
+    in_fields.into_iter().flatten().collect()
+}
+
+/// Reserved bytes that are not zero.
+fn reserved(file: &[u8], placed: &Placed<'_>) -> Option<Finding> {
+    let bytes = field(file, placed, 0, 2).filter(|bytes| !all_zero(bytes))?;
+    Some(Finding {
+        place: placed.place,
         length: bytes.len(),
         what: What::Reserved {
-            record: name.clone(),
+            record: placed.name.clone(),
             bytes: Value::Bytes(bytes.to_vec()),
         },
-    });
-    let text = |at: usize, width: usize, what: &'static str| {
-        tail::find(field(at, width)?, place + at, what, Some(name))
+    })
+}
+
+/// What stands behind the text of a field, of that name, place in the record and width.
+fn behind_text(
+    file: &[u8],
+    placed: &Placed<'_>,
+    (name, at, width): (&'static str, usize, usize),
+    text: &[u8],
+) -> Option<Finding> {
+    let field = TextField {
+        name,
+        place: placed.place + at,
+        bytes: field(file, placed, at, width)?,
+        text,
     };
-    let texts = [text(2, 16, "user ID"), text(22, 32, "description")];
-    reserved
-        .into_iter()
-        .chain(texts.into_iter().flatten())
-        .collect()
+    tail::find(&field, Some(&placed.name))
+}
+
+/// The bytes of a field of a record.
+fn field<'a>(file: &'a [u8], placed: &Placed<'_>, at: usize, width: usize) -> Option<&'a [u8]> {
+    file.get(placed.place..)?.get(at..)?.get(..width)
 }

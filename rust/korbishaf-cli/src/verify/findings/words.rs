@@ -16,7 +16,7 @@ impl Finding {
                 text,
             } => {
                 let (of, text) = (of(record.as_ref()), shown::text(text));
-                format!("{bytes} behind the zero of the {field}{of}: \"{text}\"")
+                format!("{bytes} behind the end of the {field}{of}: \"{text}\"")
             }
             What::WrongValue {
                 field,
