@@ -15,7 +15,8 @@ SIZES = {0: 20, 1: 28, 2: 26, 3: 34}
 # ---- making a file
 
 def text(value, width, junk=b""):
-    """A text field: the text, a zero byte, then junk that a release must not show."""
+    """A text field: the text, a zero byte, then junk that a release must not show. The text may end in spaces, which it
+    must not show either."""
     field = value + b"\0" + junk if junk else value
     return field[:width].ljust(width, b"\0")
 
@@ -52,7 +53,7 @@ def las(fmt, record_length, scales, offsets, vlrs, points, header_extra, gap, tr
 # ---- the release, from the specification (only for files and sheets that pass)
 
 def cut(field):
-    return field.split(b"\0")[0]
+    return field.split(b"\0")[0].rstrip(b" ")
 
 
 def padded(field):
@@ -147,14 +148,15 @@ def yard():
 
 def survey():
     """Format 3 with 6 extra bytes in each record. Five VLRs; the sheet keeps the GeoKey directory (LASF_Projection,
-    34735) and its doubles (34736), not its text (34737), and names the directory twice. It keeps classes 2 to 5. One
-    point of class 5 has stored X -2147483648, one of class 4 the largest stored Z. Points of class 1, 6 and 255 are
-    left out."""
+    34735) and its doubles (34736), not its text (34737), and names the directory twice. The directory's user ID ends in
+    a space in the file, the doubles' in the sheet; the system identifier and the directory's description have spaces
+    before their zero, and the doubles' description is spaces alone. The sheet keeps classes 2 to 5. One point of class
+    5 has stored X -2147483648, one of class 4 the largest stored Z. Points of class 1, 6 and 255 are left out."""
     keys = struct.pack("<4H", 1, 1, 0, 3) + struct.pack("<12H", 1024, 0, 1, 1, 2057, 34736, 1, 0, 3072, 0, 1, 32633)
     vlrs = [vlr(b"LASF_Projection", 34737, b"text parameters", b"WGS 84 / UTM 33N|", b"z"),
-            vlr(b"LASF_Projection", 34735, b"GeoKey directory", keys, b"draft 3", 0),
+            vlr(b"LASF_Projection ", 34735, b"GeoKey directory  ", keys, b"draft 3", 0),
             vlr(b"LASF_Spec", 0, b"classes", bytes(16), b"q"),
-            vlr(b"LASF_Projection", 34736, b"", struct.pack("<d", 6378137.0), b"hidden"),
+            vlr(b"LASF_Projection", 34736, b"   ", struct.pack("<d", 6378137.0), b"hidden"),
             vlr(b"lasf_projection", 34735, b"wrong case", b"1234", b"q")]
     values = [(-2147483648, 0, 7, 5), (2147483647, 2147483647, 1, 6), (12, -40, 2147483647, 4), (5, 5, 5, 1), (-3, 9, -8, 3),
               (77, 1, 0, 2), (0, 0, -99, 255), (41, -2147483648, 3, 2)]
@@ -162,8 +164,8 @@ def survey():
                     colour=(i, 256 * i, 65535), extra=bytes([i]) * 6) for i, (x, y, z, cls) in enumerate(values)]
     stated = ((0, 0, 0, 0, 0), (float("nan"),) * 6)
     f = las(3, 40, (0.001, 0.25, 2.0 ** -10), (-123456.789, 1048576.0, -7.0), vlrs, points, b"", b"", b"\xff" * 5,
-            stated, b"helicopter", b"a software name of 32 bytes long", b"tail")
-    return f, class_line(2, 3) + record_line(b"LASF_Projection", 34735) + record_line(b"LASF_Projection", 34736) \
+            stated, b"helicopter   ", b"a software name of 32 bytes long", b"tail")
+    return f, class_line(2, 3) + record_line(b"LASF_Projection", 34735) + record_line(b"LASF_Projection ", 34736) \
         + record_line(b"LASF_Projection", 34735) + class_line(4, 5)
 
 
