@@ -29,11 +29,14 @@ foundPoint place p =
       blue = p .blue;
       «return_number» = p .«return_number»;
       returns = p .returns;
-      «class_byte» = p .«class_byte»;
+      classification = p .classification;
       «user_data» = p .«user_data»;
       «scan_direction» = boolByte (p .«scan_direction»);
       edge = boolByte (p .edge);
       «scan_angle» = p .«scan_angle»;
+      synthetic = boolByte (p .synthetic);
+      «key_point» = boolByte (p .«key_point»);
+      withheld = boolByte (p .withheld);
     }
 
 unfoldable pub noPoint : ℕ → «las_point»
@@ -52,11 +55,14 @@ noPoint n =
       blue = 0;
       «return_number» = 0;
       returns = 0;
-      «class_byte» = 0;
+      classification = 0;
       «user_data» = 0;
       «scan_direction» = 0;
       edge = 0;
       «scan_angle» = pos 0;
+      synthetic = 0;
+      «key_point» = 0;
+      withheld = 0;
     }
 
 unfoldable pub pointNumbers : PointAt → «las_point»
@@ -84,7 +90,7 @@ givenPoint p =
       returns = p .returns;
       «scan_direction» = yes (p .«scan_direction»);
       edge = yes (p .edge);
-      «class_byte» = p .«class_byte»;
+      classification = p .classification;
       «scan_angle» = p .«scan_angle»;
       «user_data» = p .«user_data»;
       «source_id» = p .«source_id»;
@@ -92,4 +98,7 @@ givenPoint p =
       red = p .red;
       green = p .green;
       blue = p .blue;
+      synthetic = yes (p .synthetic);
+      «key_point» = yes (p .«key_point»);
+      withheld = yes (p .withheld);
     }

@@ -110,11 +110,12 @@ pub extern "C" fn las_coordinate(stored: i32, scale: u64, offset: u64) -> u64
     coordinate_bits(stored, scale, offset)
 }
 
+// The class is one number from 0 to 255, with no flags in it.
 #[no_mangle]
-pub extern "C" fn las_class_kept(sheet: &[u8], class_byte: u8) -> las_kept
-    ensures { λ r. ⌜ r ≡ lasClassKept (now (sheet .entry)) «class_byte» ⌝ }
+pub extern "C" fn las_class_kept(sheet: &[u8], classification: u8) -> las_kept
+    ensures { λ r. ⌜ r ≡ lasClassKept (now (sheet .entry)) classification ⌝ }
 {
-    kept_numbers(class_kept(sheet, class_byte))
+    kept_numbers(class_kept(sheet, classification))
 }
 
 // The user ID is any number of bytes, cut as any text.

@@ -19,11 +19,14 @@ pub struct las_point {
     pub blue: u16,
     pub return_number: u8,
     pub returns: u8,
-    pub class_byte: u8,
+    pub classification: u8,
     pub user_data: u8,
     pub scan_direction: u8,
     pub edge: u8,
     pub scan_angle: i8,
+    pub synthetic: u8,
+    pub key_point: u8,
+    pub withheld: u8,
 }
 
 // The numbers of a point and of its record's place.
@@ -44,11 +47,14 @@ fn found_point(place: usize, point: points::Point) -> las_point
         blue: point.blue,
         return_number: point.return_number,
         returns: point.returns,
-        class_byte: point.class_byte,
+        classification: point.classification,
         user_data: point.user_data,
         scan_direction: point.scan_direction as u8,
         edge: point.edge as u8,
         scan_angle: point.scan_angle,
+        synthetic: point.synthetic as u8,
+        key_point: point.key_point as u8,
+        withheld: point.withheld as u8,
     }
 }
 
@@ -69,11 +75,14 @@ fn no_point(number: u64) -> las_point
         blue: 0,
         return_number: 0,
         returns: 0,
-        class_byte: 0,
+        classification: 0,
         user_data: 0,
         scan_direction: 0,
         edge: 0,
         scan_angle: 0,
+        synthetic: 0,
+        key_point: 0,
+        withheld: 0,
     }
 }
 
@@ -110,7 +119,7 @@ pub(crate) fn given_point(point: las_point) -> points::Point
         returns: point.returns,
         scan_direction: point.scan_direction != 0,
         edge: point.edge != 0,
-        class_byte: point.class_byte,
+        classification: point.classification,
         scan_angle: point.scan_angle,
         user_data: point.user_data,
         source_id: point.source_id,
@@ -118,5 +127,8 @@ pub(crate) fn given_point(point: las_point) -> points::Point
         red: point.red,
         green: point.green,
         blue: point.blue,
+        synthetic: point.synthetic != 0,
+        key_point: point.key_point != 0,
+        withheld: point.withheld != 0,
     }
 }

@@ -92,7 +92,7 @@ pub with-others : (f : ℕ) (p : Bytes) (q : Point) (time red green blue : ℕ) 
       returns = q .returns;
       «scan_direction» = q .«scan_direction»;
       edge = q .edge;
-      «class_byte» = q .«class_byte»;
+      classification = q .classification;
       «scan_angle» = q .«scan_angle»;
       «user_data» = q .«user_data»;
       «source_id» = q .«source_id»;
@@ -100,6 +100,9 @@ pub with-others : (f : ℕ) (p : Bytes) (q : Point) (time red green blue : ℕ) 
       red = red;
       green = green;
       blue = blue;
+      synthetic = q .synthetic;
+      «key_point» = q .«key_point»;
+      withheld = q .withheld;
     })
     (pointOf f p)
 unfolding pointOf blank

@@ -1,8 +1,8 @@
 -- Laws of single fields: a number at a place, over the place, and a flag as a number.
 -- Assumes nothing.
 use mathlib.Core.Path.{_≡_, refl}
-use Prim.Native.Nat.{ℕ, zero-le, _+_, _^_, _≤_, _<_}
-use native.Mathlib.Nat.{pow-le-pow-right}
+use Prim.Native.Nat.{ℕ, _+_, _≤_}
+use native.Mathlib.Nat.{add-zero}
 use native.Mathlib.Omega.{arith}
 use mathlib.Core.Bool.{Bool, true, false}
 use mir.Val.{boolByte}
@@ -12,21 +12,19 @@ use Rattle.points.specs.declared.formats.Place.the-variants.{At, Absent}
 use Rattle.points.specs.Points.{numberIn}
 use Rattle.points.specs.Encoding.{valueIf}
 
--- r is the number of w bytes at a place
-abbrev pub Number : ℕ → Place → ℕ → Bytes → ℕ → Type 0
-Number w place shift s r = (r ≡ numberIn w place shift s) × (r < 256 ^ w)
-
-none-fits : (w : ℕ) → 0 < 256 ^ w
-none-fits w = omega (arith, pow-le-pow-right {n = 256} (omega arith) (zero-le {n = w}))
-
-pub number-none : (w : ℕ) (place : Place) (shift : ℕ) (s : Bytes) → place ≡ Absent → Number w place shift s 0
+pub number-none : (w : ℕ) (place : Place) (shift : ℕ) (s : Bytes) → place ≡ Absent → 0 ≡ numberIn w place shift s
 unfolding numberIn
-number-none w place shift s e = rw e (refl, none-fits w)
+number-none w place shift s e = rw e refl
 
 pub number-there : (w : ℕ) (place : Place) (shift : ℕ) (s : Bytes) (at r : ℕ) → place ≡ At at
-    → (r ≡ num (part (at + shift) w s)) × (r < 256 ^ w) → Number w place shift s r
+    → r ≡ num (part (at + shift) w s) → r ≡ numberIn w place shift s
 unfolding numberIn
 number-there w place shift s at r e h = rw e h
+
+-- the first of a place's numbers
+pub number-first : (w : ℕ) (place : Place) (s : Bytes) (at r : ℕ) → place ≡ At at
+    → r ≡ num (part at w s) → r ≡ numberIn w place 0 s
+number-first w place s at r e h = number-there w place 0 s at r e (rw (add-zero at) h)
 
 pub value-none : (place : Place) (n : ℕ) → place ≡ Absent → 0 ≡ valueIf place n
 unfolding valueIf

@@ -20,15 +20,20 @@ use Rattle.points.specs.Points.{shape}
 unfoldable pub flagByte : Point → ℕ
 flagByte q = q .«return_number» + 8 * q .returns + 64 * boolByte (q .«scan_direction») + 128 * boolByte (q .edge)
 
--- the first 20 bytes
-unfoldable pub sharedFields : Point → List Bytes
-sharedFields q =
+-- the classification byte of format f, of class and flags
+unfoldable pub joinedClass : ℕ → Point → ℕ
+joinedClass f q =
+    q .classification + 32 * boolByte (q .synthetic) + 64 * boolByte (q .«key_point») + 128 * boolByte (q .withheld)
+
+-- the first 20 bytes of format f
+unfoldable pub sharedFields : ℕ → Point → List Bytes
+sharedFields f q =
     bytesOf 4 (ofZ w32 (q .x))
     ∷ bytesOf 4 (ofZ w32 (q .y))
     ∷ bytesOf 4 (ofZ w32 (q .z))
     ∷ bytesOf 2 (q .intensity)
     ∷ bytesOf 1 (flagByte q)
-    ∷ bytesOf 1 (q .«class_byte»)
+    ∷ bytesOf 1 (joinedClass f q)
     ∷ bytesOf 1 (ofZ w8 (q .«scan_angle»))
     ∷ bytesOf 1 (q .«user_data»)
     ∷ bytesOf 2 (q .«source_id»)
@@ -50,17 +55,17 @@ colourFields place q = ifPlaced place (colours q)
 
 -- the fields of format f, back to back
 unfoldable pub pointFields : ℕ → Point → List Bytes
-pointFields f q = sharedFields q ++ (timeFields (timePlace f) q ++ colourFields (colourPlace f) q)
+pointFields f q = sharedFields f q ++ (timeFields (timePlace f) q ++ colourFields (colourPlace f) q)
 
 unfoldable pub pointBytes : ℕ → Point → Bytes
 pointBytes f q = join (pointFields f q)
 
--- what 13 is given for: a return number or number of returns exceeds 7
-unfoldable pub large : Point → Test
-large q = 7 below q .«return_number» or 7 below q .returns
+-- what 13 is given for: a return number or number of returns exceeds 7, or a class exceeds 31
+unfoldable pub large : ℕ → Point → Test
+large f q = 7 below q .«return_number» or (7 below q .returns or 31 below q .classification)
 
 unfoldable pub encodeChecks : ℕ → ℕ → Point → Bytes → List Check
-encodeChecks f len q room = (12, shape f len (length room)) ∷ (13, large q) ∷ []
+encodeChecks f len q room = (12, shape f len (length room)) ∷ (13, large f q) ∷ []
 
 unfoldable pub storedIf : Verdict → Bytes → Bytes → Verdict × Bytes
 storedIf Passes b room = (Passes, sets room 0 b)
@@ -88,7 +93,7 @@ blank f q =
       returns = q .returns;
       «scan_direction» = q .«scan_direction»;
       edge = q .edge;
-      «class_byte» = q .«class_byte»;
+      classification = q .classification;
       «scan_angle» = q .«scan_angle»;
       «user_data» = q .«user_data»;
       «source_id» = q .«source_id»;
@@ -96,6 +101,9 @@ blank f q =
       red = valueIf (colourPlace f) (q .red);
       green = valueIf (colourPlace f) (q .green);
       blue = valueIf (colourPlace f) (q .blue);
+      synthetic = q .synthetic;
+      «key_point» = q .«key_point»;
+      withheld = q .withheld;
     }
 
 -- the ranges of the code's types, which every `Point` of the code is in
@@ -104,7 +112,6 @@ pub record InRange (q : Point) : Type 0 where
   pub y : SFits w32 (q .y)
   pub z : SFits w32 (q .z)
   pub intensity : q .intensity < 2 ^ 16
-  pub class-byte : q .«class_byte» < 2 ^ 8
   pub scan-angle : SFits w8 (q .«scan_angle»)
   pub user-data : q .«user_data» < 2 ^ 8
   pub source-id : q .«source_id» < 2 ^ 16

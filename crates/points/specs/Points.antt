@@ -12,7 +12,7 @@ use Rattle.fields.specs.declared.Verdict.{Verdict}
 use Rattle.fields.specs.declared.Verdict.the-variants.{Passes, Fails}
 use Rattle.points.specs.declared.formats.Place.{Place}
 use Rattle.points.specs.declared.formats.Place.the-variants.{At, Absent}
-use Rattle.points.specs.Raw.{bits, classOf, returnOf, stored}
+use Rattle.points.specs.Raw.{bits, bit, classOf, syntheticOf, keyPointOf, withheldOf, returnOf, stored}
 use Rattle.points.specs.Formats.{formatSize, timePlace, colourPlace}
 use Rattle.points.specs.declared.Point.{Point}
 use Rattle.points.specs.declared.Decoded.{Decoded}
@@ -35,9 +35,9 @@ pointOf f p =
       intensity = num (part 12 2 p);
       «return_number» = returnOf f p;
       returns = bits 3 3 (getD p 14 0);
-      «scan_direction» = eqb (bits 6 1 (getD p 14 0)) 1;
-      edge = eqb (bits 7 1 (getD p 14 0)) 1;
-      «class_byte» = classOf f p;
+      «scan_direction» = bit 6 (getD p 14 0);
+      edge = bit 7 (getD p 14 0);
+      classification = classOf f p;
       «scan_angle» = toZ w8 (getD p 16 0);
       «user_data» = getD p 17 0;
       «source_id» = num (part 18 2 p);
@@ -45,6 +45,9 @@ pointOf f p =
       red = numberIn 2 (colourPlace f) 0 p;
       green = numberIn 2 (colourPlace f) 2 p;
       blue = numberIn 2 (colourPlace f) 4 p;
+      synthetic = syntheticOf f p;
+      «key_point» = keyPointOf f p;
+      withheld = withheldOf f p;
     }
 
 -- what 12 is given for: the n bytes differ from the record length, that length is below the format's size, or the

@@ -1,11 +1,11 @@
--- What is read off the bytes of point records by themselves: the records of a run, and a record's class, return number
--- and stored coordinates. Requests that move one of these by the format move it here.
+-- What is read off the bytes of point records by themselves: the records of a run, and a record's class, flags, return
+-- number and stored coordinates. Requests that move one of these by the format move it here.
 -- Assumes nothing.
 use Prim.Native.Nat.{ℕ, _*_, _/_, _%_, _^_}
 use mathlib.Core.Bool.{Bool, _&&_}
 use mathlib.Core.List.{List}
 use lib.ListN.{length, getD}
-use lib.Dec.{ltb, leb}
+use lib.Dec.{ltb, leb, eqb}
 use lib.IntN.{ℤ}
 use mir.Syntax.{w32}
 use mir.Val.{toZ}
@@ -17,11 +17,43 @@ use Rattle.points.specs.declared.raw.Stored.{Stored}
 unfoldable pub bits : ℕ → ℕ → ℕ → ℕ
 bits low n b = b / 2 ^ low % 2 ^ n
 
+-- whether a bit of a byte is set
+unfoldable pub bit : ℕ → ℕ → Bool
+bit n b = eqb (bits n 1 b) 1
+
+-- ---- the classification byte of a format: class in bits 0 to 4, synthetic in 5, key point in 6, withheld in 7
+
+-- its class
+unfoldable pub classIn : ℕ → ℕ → ℕ
+classIn f b = bits 0 5 b
+
+unfoldable pub syntheticIn : ℕ → ℕ → Bool
+syntheticIn f b = bit 5 b
+
+unfoldable pub keyPointIn : ℕ → ℕ → Bool
+keyPointIn f b = bit 6 b
+
+unfoldable pub withheldIn : ℕ → ℕ → Bool
+withheldIn f b = bit 7 b
+
 -- ---- one record, by its format
 
--- a point's class is its whole classification byte, in every format
+-- a point's classification byte; all four formats have it in one place
+unfoldable pub classByte : ℕ → Bytes → ℕ
+classByte f p = getD p 15 0
+
+-- a point's class and flags, as its classification byte says
 unfoldable pub classOf : ℕ → Bytes → ℕ
-classOf f p = getD p 15 0
+classOf f p = classIn f (classByte f p)
+
+unfoldable pub syntheticOf : ℕ → Bytes → Bool
+syntheticOf f p = syntheticIn f (classByte f p)
+
+unfoldable pub keyPointOf : ℕ → Bytes → Bool
+keyPointOf f p = keyPointIn f (classByte f p)
+
+unfoldable pub withheldOf : ℕ → Bytes → Bool
+withheldOf f p = withheldIn f (classByte f p)
 
 -- a point's return number; all four formats have it in one place
 unfoldable pub returnOf : ℕ → Bytes → ℕ

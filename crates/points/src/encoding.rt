@@ -31,7 +31,7 @@ fn start_of(place: Place, end: usize) -> usize
     }
 }
 
-// Writes a number at a place, if the format has it. That there is room is asked once more, as in `number_in`: here this
+// Writes a number at a place, if the format has it. That there is room is asked once more, as in `time_in`: here this
 // one test finds both, so that the number is made only where it is written.
 fn put_at(room: &mut [u8], place: Place, width: usize, n: u64)
     requires { ⌜ ((at : ℕ) → place ≡ At at → at + width ≤ length (now room)) ⌝ }
@@ -56,10 +56,10 @@ fn put_others(room: &mut [u8], format: u8, point: Point)
 }
 
 // Whether a field is too large to encode.
-fn is_large(point: Point) -> bool
-    ensures { λ r. ⌜ r ≡ fails (large point) ⌝ }
+fn is_large(format: u8, point: Point) -> bool
+    ensures { λ r. ⌜ r ≡ fails (large format point) ⌝ }
 {
-    (7 < point.return_number) | (7 < point.returns)
+    (7 < point.return_number) | ((7 < point.returns) | (31 < point.classification))
 }
 
 // Writes a point's fields into a room of the record length. The bytes behind the format's size stay. What all formats
@@ -70,10 +70,10 @@ pub fn encode(format: u8, record_length: u16, point: Point, room: &mut [u8]) -> 
     if !crate::has_shape(format, record_length, room.len()) {
         return Verdict::Fails(refusals::BAD_SHAPE);
     }
-    if is_large(point) {
+    if is_large(format, point) {
         return Verdict::Fails(refusals::FIELD_TOO_LARGE);
     }
     put_others(room, format, point);
-    common::put_shared(room, point);
+    common::put_shared(room, format, point);
     Verdict::Passes
 }

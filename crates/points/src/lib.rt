@@ -6,7 +6,7 @@ pub mod layouts;
 pub mod raw;
 
 ghost use mathlib.Core.Path.{_≡_};
-ghost use Prim.Native.Nat.{ℕ, _+_, _≤_, _<_, _^_, min};
+ghost use Prim.Native.Nat.{ℕ, _+_, _≤_};
 ghost use lib.ListN.{length};
 ghost use mathlib.Core.Bool.{not};
 ghost use Rattle.fields.specs.Bytes.{num, part};
@@ -18,7 +18,7 @@ use crate::formats::Place;
 use fields::refusals;
 use fields::signed;
 
-// A point's fields. GPS time is its 64 bits.
+// A point's fields. GPS time is its 64 bits, and the last three are flags of the classification byte.
 pub struct Point {
     pub x: i32,
     pub y: i32,
@@ -28,7 +28,7 @@ pub struct Point {
     pub returns: u8,
     pub scan_direction: bool,
     pub edge: bool,
-    pub class_byte: u8,
+    pub classification: u8,
     pub scan_angle: i8,
     pub user_data: u8,
     pub source_id: u16,
@@ -36,6 +36,9 @@ pub struct Point {
     pub red: u16,
     pub green: u16,
     pub blue: u16,
+    pub synthetic: bool,
+    pub key_point: bool,
+    pub withheld: bool,
 }
 
 // What decoding gives: the fields, or the number that it refuses with.
@@ -50,17 +53,17 @@ fn u16_at(s: &[u8], at: usize) -> u16
     fields::numbers::number_at(s, at, 2) as u16
 }
 
-// The number of `width` bytes, `shift` bytes behind a place; 0 where the format lacks the field. That the record holds
-// them is asked once more here: it shows the compiler that no byte is missing.
-fn number_in(s: &[u8], place: Place, shift: usize, width: usize) -> u64
-    requires { ⌜ ((at : ℕ) → place ≡ At at → at + (shift + width) ≤ length (now s)) ⌝ }
-    ensures { λ r. ⌜ (r ≡ numberIn (min width 8) place shift (now (s .entry))) × (r < 256 ^ min width 8) ⌝ }
+// GPS time; 0 where the format lacks it. That the record holds it is asked once more here: it shows the compiler that
+// no byte is missing.
+fn time_in(s: &[u8], place: Place) -> u64
+    requires { ⌜ ((at : ℕ) → place ≡ At at → at + 8 ≤ length (now s)) ⌝ }
+    ensures { λ r. ⌜ r ≡ numberIn 8 place 0 (now (s .entry)) ⌝ }
 {
     match place {
         Place::Absent => 0,
         Place::At(at) => {
-            if fields::numbers::fits_in(s.len(), at, shift + width) {
-                fields::numbers::number_at(s, at + shift, width)
+            if fields::numbers::fits_in(s.len(), at, 8) {
+                fields::numbers::number_at(s, at, 8)
             } else {
                 0
             }
@@ -68,19 +71,42 @@ fn number_in(s: &[u8], place: Place, shift: usize, width: usize) -> u64
     }
 }
 
-// GPS time. By itself, so that the compiler has made one load of its bytes where it weighs whether to inline `decode`.
-fn time_in(s: &[u8], place: Place) -> u64
-    requires { ⌜ ((at : ℕ) → place ≡ At at → at + 8 ≤ length (now s)) ⌝ }
-    ensures { λ r. ⌜ r ≡ numberIn 8 place 0 (now (s .entry)) ⌝ }
-{
-    number_in(s, place, 0, 8)
+struct Colour {
+    red: u16,
+    green: u16,
+    blue: u16,
 }
 
-fn u16_in(s: &[u8], place: Place, shift: usize) -> u16
-    requires { ⌜ ((at : ℕ) → place ≡ At at → at + (shift + 2) ≤ length (now s)) ⌝ }
-    ensures { λ r. ⌜ r ≡ numberIn 2 place shift (now (s .entry)) ⌝ }
+// Red, green and blue; 0 where the format lacks them. The record is asked as for GPS time, once for all three: a test
+// for each makes `decode` too long to be inlined.
+fn colour_in(s: &[u8], place: Place) -> Colour
+    requires { ⌜ ((at : ℕ) → place ≡ At at → at + 6 ≤ length (now s)) ⌝ }
+    ensures { λ r. ⌜ (r .red ≡ numberIn 2 place 0 (now (s .entry)))
+        × (r .green ≡ numberIn 2 place 2 (now (s .entry)))
+        × (r .blue ≡ numberIn 2 place 4 (now (s .entry))) ⌝ }
 {
-    number_in(s, place, shift, 2) as u16
+    match place {
+        Place::Absent => Colour {
+            red: 0,
+            green: 0,
+            blue: 0,
+        },
+        Place::At(at) => {
+            if fields::numbers::fits_in(s.len(), at, 6) {
+                Colour {
+                    red: u16_at(s, at),
+                    green: u16_at(s, at + 2),
+                    blue: u16_at(s, at + 4),
+                }
+            } else {
+                Colour {
+                    red: 0,
+                    green: 0,
+                    blue: 0,
+                }
+            }
+        }
+    }
 }
 
 // The fields of a record that all formats share; the others, which format 0 lacks, are 0.
@@ -89,6 +115,7 @@ fn shared_of(format: u8, s: &[u8]) -> Point
 {
     let stored = raw::stored_of(s);
     let flags = fields::numbers::u8_at(s, raw::RETURNS);
+    let class_byte = raw::class_byte(format, s);
     Point {
         x: stored.x,
         y: stored.y,
@@ -98,7 +125,7 @@ fn shared_of(format: u8, s: &[u8]) -> Point
         returns: flags / 8 % 8,
         scan_direction: flags / 64 % 2 == 1,
         edge: flags / 128 % 2 == 1,
-        class_byte: raw::class_of(format, s),
+        classification: raw::class_in(format, class_byte),
         scan_angle: signed::i8_at(s, 16),
         user_data: fields::numbers::u8_at(s, 17),
         source_id: u16_at(s, 18),
@@ -106,6 +133,9 @@ fn shared_of(format: u8, s: &[u8]) -> Point
         red: 0,
         green: 0,
         blue: 0,
+        synthetic: raw::synthetic_in(format, class_byte),
+        key_point: raw::key_point_in(format, class_byte),
+        withheld: raw::withheld_in(format, class_byte),
     }
 }
 
@@ -132,8 +162,9 @@ pub fn decode(format: u8, record_length: u16, bytes: &[u8]) -> Decoded
     let colour = layout.colour;
     let mut point = shared_of(format, bytes);
     point.gps_time = time_in(bytes, time);
-    point.red = u16_in(bytes, colour, 0);
-    point.green = u16_in(bytes, colour, 2);
-    point.blue = u16_in(bytes, colour, 4);
+    let rgb = colour_in(bytes, colour);
+    point.red = rgb.red;
+    point.green = rgb.green;
+    point.blue = rgb.blue;
     Decoded::Fields(point)
 }

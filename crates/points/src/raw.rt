@@ -1,8 +1,8 @@
 // What is read off the bytes of point records by themselves: whether a run holds its records, and a record's class,
-// return number and stored coordinates. Formats 0 to 3 have each field in one place, so that `format` is not
+// flags, return number and stored coordinates. Formats 0 to 3 have each field in one place, so that `format` is not
 // looked at yet. Bytes past the end count as 0.
 ghost use mathlib.Core.Path.{_≡_};
-ghost use Rattle.points.specs.Raw.{classOf, returnOf, storedOf, inRun};
+ghost use Rattle.points.specs.Raw.{classIn, syntheticIn, keyPointIn, withheldIn, classByte, returnOf, storedOf, inRun};
 use fields::numbers::u8_at;
 use fields::signed;
 
@@ -23,8 +23,33 @@ pub struct Stored {
     pub z: i32,
 }
 
-pub fn class_of(format: u8, point: &[u8]) -> u8
-    ensures { λ r. ⌜ r ≡ classOf format (now (point .entry)) ⌝ }
+// What a classification byte says: the class, and three flags.
+pub fn class_in(format: u8, byte: u8) -> u8
+    ensures { λ r. ⌜ r ≡ classIn format byte ⌝ }
+{
+    byte % 32
+}
+
+pub fn synthetic_in(format: u8, byte: u8) -> bool
+    ensures { λ r. ⌜ r ≡ syntheticIn format byte ⌝ }
+{
+    byte / 32 % 2 == 1
+}
+
+pub fn key_point_in(format: u8, byte: u8) -> bool
+    ensures { λ r. ⌜ r ≡ keyPointIn format byte ⌝ }
+{
+    byte / 64 % 2 == 1
+}
+
+pub fn withheld_in(format: u8, byte: u8) -> bool
+    ensures { λ r. ⌜ r ≡ withheldIn format byte ⌝ }
+{
+    byte / 128 % 2 == 1
+}
+
+pub fn class_byte(format: u8, point: &[u8]) -> u8
+    ensures { λ r. ⌜ r ≡ classByte format (now (point .entry)) ⌝ }
 {
     u8_at(point, CLASSIFICATION)
 }

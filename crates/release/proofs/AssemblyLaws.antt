@@ -125,11 +125,11 @@ module _ (sheet s : Bytes) (bytes : AllBytes s) (passes : fileVerdict s ≡ Pass
   own-head : headBytes s own ≡ head
   own-head = whole-head s own (passed s passes .whole) ∙ ap (λ (k : Head). join (headFields k)) head-is
 
-  module _ (table : List Bool) (right : TableOf sheet table) where
+  module _ (table : List Bool) (right : TableOf sheet (format s) table) where
     -- the table keeps the points that the sheet keeps
     by-table : (ps : List Bytes) → All AllBytes ps → All (λ p. inTable table (format s) p ≡ keepsPoint sheet (format s) p) ps
     by-table [] h = tt
-    by-table (p ∷ ps) h = (table-keeps sheet table right (format s) p (h .0), by-table ps (h .1))
+    by-table (p ∷ ps) h = (table-keeps sheet (format s) table right p (h .0), by-table ps (h .1))
 
     run-bytes : AllBytes run
     run-bytes i = rw getD-drop (bytes (pointOffset s + i))
@@ -184,7 +184,7 @@ pub record Sized (sheet s : Bytes) (table : List Bool) (k : KeptRecords) : Type 
   pub records : k .count ≡ length (publicOf sheet s .records)
   pub most : headerBlock + k .length + pointCount s * recordLength s ≤ length s
 
-pub sized : (sheet s : Bytes) → AllBytes s → fileVerdict s ≡ Passes → (table : List Bool) → TableOf sheet table
+pub sized : (sheet s : Bytes) → AllBytes s → fileVerdict s ≡ Passes → (table : List Bool) → TableOf sheet (format s) table
     → (k : KeptRecords) → k ≡ measured (publicOf sheet s .records) → Sized sheet s table k
 unfolding measured
 sized sheet s bytes passes table right k m =

@@ -1,4 +1,4 @@
--- The points of a run that a table of the classes keeps.
+-- The points of a run that a table keeps.
 -- Assumes nothing.
 use Prim.Native.Nat.{ℕ, _+_, _≤_}
 use mathlib.Core.Bool.{Bool}

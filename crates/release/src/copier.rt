@@ -1,4 +1,4 @@
-// The point copier: writes the points that a table of the classes keeps, and no byte of another, and tallies them.
+// The point copier: writes the points that a table keeps, and no byte of another, and tallies them.
 ghost use mathlib.Core.Path.{_≡_};
 ghost use mathlib.Core.List.{_++_};
 ghost use Prim.Native.Nat.{_*_, _^_, _<_, _≤_};

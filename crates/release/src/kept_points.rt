@@ -1,4 +1,4 @@
-// The points of a run that a table of the classes keeps: where they stand, and how many they are.
+// The points of a run that a table keeps: where they stand, and how many they are.
 // No loop over points branches on whether one is kept, since no processor can guess which way it goes.
 ghost use mathlib.Core.Path.{_≡_};
 ghost use mathlib.Core.Bool.{cond};

@@ -8,8 +8,9 @@ mod vlrs;
 
 ghost use mathlib.Core.Path.{_≡_};
 ghost use Prim.Native.Nat.{_+_, _*_, _^_, _<_};
-ghost use Rattle.lasfile.specs.HeaderFields.{pointCount, recordLength};
+ghost use Rattle.lasfile.specs.HeaderFields.{format, pointCount, recordLength};
 ghost use Rattle.publicpart.specs.Release.{release};
+ghost use Rattle.sheet.specs.Keeping.{TableOf};
 ghost use Rattle.release.specs.Assembly.{roomAsked};
 use fields::Verdict;
 use fields::slices;
@@ -35,6 +36,13 @@ fn room_for(file: &[u8], table: &[bool; 256], start: usize, room: usize) -> usiz
     start + kept_points::count_points(run, format, record_length, count, table) * record_length
 }
 
+// Which points of a file's format a sheet keeps.
+fn table_for(file: &[u8], sheet: &[u8]) -> [bool; 256]
+    ensures { λ r. ⌜ TableOf (now (sheet .entry)) (format (now (file .entry))) r ⌝ }
+{
+    class_table::class_table(sheet, header::format(file))
+}
+
 // Releases what a sheet keeps of a file. Everything that can refuse is decided before the first byte is written.
 pub fn release(file: &[u8], sheet: &[u8], out: &mut [u8]) -> Answer
     ensures { λ r. ⌜ (r, now (out .exit)) ≡ release (now (sheet .entry)) (now (file .entry)) (now (out .entry)) ⌝ }
@@ -47,8 +55,8 @@ pub fn release(file: &[u8], sheet: &[u8], out: &mut [u8]) -> Answer
     if let Verdict::Fails(n) = sheet_verdict {
         return Answer::Refused(n);
     }
-    let table = class_table::class_table(sheet);
     let kept = vlrs::measure(file, sheet);
+    let table = table_for(file, sheet);
     let records = kept.count;
     let start = header::HEADER_BLOCK + kept.length;
     let needed = room_for(file, &table, start, out.len());

@@ -1,11 +1,11 @@
 -- What a keep sheet keeps: classes, points and records.
 -- Assumes nothing.
 use Prim.Native.Nat.{ℕ, _<_}
-use mathlib.Core.Bool.{Bool, _&&_, true, false}
+use mathlib.Core.Bool.{Bool, _&&_, not, true, false}
 use lib.Dec.{leb, eqb}
 use Rattle.fields.specs.Lists.{anyOf}
 use Rattle.fields.specs.Bytes.{Bytes, same}
-use Rattle.points.specs.Raw.{classOf}
+use Rattle.points.specs.Raw.{classIn, withheldIn, classByte, classOf, withheldOf}
 use Rattle.fields.specs.Text.{cut}
 use Rattle.sheet.specs.Sheet.{kind, lowest, highest, userID, recordID, lines, sheetVerdict}
 use Rattle.fields.specs.declared.Verdict.{Verdict}
@@ -28,9 +28,9 @@ namesRecord l user id = eqb (kind l) 2 && (same (userID l) user && eqb (recordID
 unfoldable pub keepsClass : Bytes → ℕ → Bool
 keepsClass sheet c = anyOf (λ l. containsClass l c) (lines sheet)
 
--- a point by its format and bytes: its class is kept
+-- a point by its format and bytes: its class is kept, and it is not withheld
 unfoldable pub keepsPoint : Bytes → ℕ → Bytes → Bool
-keepsPoint sheet f p = keepsClass sheet (classOf f p)
+keepsPoint sheet f p = keepsClass sheet (classOf f p) && not (withheldOf f p)
 
 unfoldable pub keepsRecord : Bytes → Bytes → ℕ → Bool
 keepsRecord sheet user id = anyOf (λ l. namesRecord l user id) (lines sheet)
@@ -51,15 +51,19 @@ classKept sheet c = keptUnder (sheetVerdict sheet) (keepsClass sheet c)
 abbrev pub recordKept : Bytes → Bytes → ℕ → Kept
 recordKept sheet user id = keptUnder (sheetVerdict sheet) (keepsRecord sheet (cut user) id)
 
--- ---- a table of the classes, which a release makes once
+-- ---- a table by the classification byte, which a release makes once
 
--- a table of the classes that a sheet keeps: entry c is for class c
-abbrev pub TableOf : Bytes → List Bool → Type 0
-TableOf sheet table = (c : ℕ) → c < 256 → getD table c false ≡ keepsClass sheet c
+-- a point by its format and classification byte
+unfoldable pub keepsByte : Bytes → ℕ → ℕ → Bool
+keepsByte sheet f b = keepsClass sheet (classIn f b) && not (withheldIn f b)
+
+-- a table of the points of format f that a sheet keeps: entry b is for classification byte b
+abbrev pub TableOf : Bytes → ℕ → List Bool → Type 0
+TableOf sheet f table = (b : ℕ) → b < 256 → getD table b false ≡ keepsByte sheet f b
 
 -- whether a table keeps a point, by its format and bytes
 unfoldable pub inTable : List Bool → ℕ → Bytes → Bool
-inTable table f p = getD table (classOf f p) false
+inTable table f p = getD table (classByte f p) false
 
 -- ---- what the code's search looks for; no public contract cites it
 

@@ -443,7 +443,6 @@ in-range7 =
       y = record { sfits = lit< tt };
       z = record { sfits = lit< tt };
       intensity = lit< tt;
-      class-byte = lit< tt;
       scan-angle = record { sfits = lit< tt };
       user-data = lit< tt;
       source-id = lit< tt;

@@ -7,7 +7,7 @@ use Rattle.fields.specs.Bytes.{Bytes, part, num, bytesOf, same, join, pieces, n
 use Rattle.fields.specs.Text.{cut, padded}
 use Rattle.fields.specs.Checks.{fails, failIf, firstFailing, then, numberOf}
 use Rattle.points.specs.Formats.{formatSize, timePlace, colourPlace}
-use Rattle.points.specs.Raw.{classOf, bits, returnOf, stored}
+use Rattle.points.specs.Raw.{bits, bit, classIn, syntheticIn, keyPointIn, withheldIn, classByte, classOf, syntheticOf, keyPointOf, withheldOf, returnOf, stored}
 use Rattle.points.specs.Points.{numberIn, pointOf, shape, decodeChecks, fieldsIf, decoded}
 use Rattle.lasfile.specs.Records.{payloadLength, recordOf, sizeOf, places, walk, walkEnd, recordBytes, writtenLength, recordsBytes}
 use Rattle.scaling.specs.Scaling.{coordinateOf, coordinateBits, doubleAt, scalingIn, scalingOf, within, goodScale, goodOffset, goodScaling, boundsOf}
@@ -24,7 +24,7 @@ use Rattle.theorems.specs.Samples.{fieldsOf, fourNumbers, samples, Sampl
 
 -- where this is unfolded, every definition of the release is
 unfoldable pub computed : Unit {0}
-unfolding kept consIf anyOf total part num bytesOf same join pieces cut padded fails failIf firstFailing then numberOf formatSize timePlace colourPlace classOf bits numberIn pointOf shape decodeChecks fieldsIf decoded payloadLength recordOf sizeOf places walk walkEnd recordBytes writtenLength recordsBytes doubleAt scalingIn scalingOf within goodScale goodOffset goodScaling coordinateOf coordinateBits boundsOf headerSize pointOffset recordCount format recordLength pointCount recordsEnd fileVerdict kind lineLength lowest highest userID recordID firstLine afterLine linesFrom lines inOrder lineChecks linesVerdict sheetVerdict containsClass namesRecord keepsClass keepsPoint keepsRecord numbersBytes upFrom returnOf bins stored largest smallest extremesOf boundNumbers bounds carriedOf contents restrict publicOf newOffset headOf render releasedNumbers refuseOr shortOr accepted roomOr release toBits ofBits add mul ofInt le
+unfolding kept consIf anyOf total part num bytesOf same join pieces cut padded fails failIf firstFailing then numberOf formatSize timePlace colourPlace classByte classIn syntheticIn keyPointIn withheldIn classOf syntheticOf keyPointOf withheldOf bits bit numberIn pointOf shape decodeChecks fieldsIf decoded payloadLength recordOf sizeOf places walk walkEnd recordBytes writtenLength recordsBytes doubleAt scalingIn scalingOf within goodScale goodOffset goodScaling coordinateOf coordinateBits boundsOf headerSize pointOffset recordCount format recordLength pointCount recordsEnd fileVerdict kind lineLength lowest highest userID recordID firstLine afterLine linesFrom lines inOrder lineChecks linesVerdict sheetVerdict containsClass namesRecord keepsClass keepsPoint keepsRecord numbersBytes upFrom returnOf bins stored largest smallest extremesOf boundNumbers bounds carriedOf contents restrict publicOf newOffset headOf render releasedNumbers refuseOr shortOr accepted roomOr release toBits ofBits add mul ofInt le
 computed = tt
 
 pub samples-hold : SamplesHold

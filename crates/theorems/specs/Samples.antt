@@ -8,6 +8,7 @@ use mathlib.Core.List.{List, [], _∷_, _++_, map}
 use lib.ListN.{length, replicate}
 use lib.IntN.{ℤ, pos, negsuc}
 use lib.Ieee.{binary64, fin, toBits}
+use mir.Val.{boolByte}
 use Rattle.fields.specs.Lists.{All, kept}
 use Rattle.fields.specs.Bytes.{Bytes, part, bytesOf, zeros, join}
 use Rattle.fields.specs.Checks.{numberOf}
@@ -37,11 +38,11 @@ sheet5 = 0x4B ∷ 0x53 ∷ []
 abbrev pub sheet6 : Bytes
 sheet6 = 0x4B ∷ 0x54 ∷ 0x01 ∷ []
 
--- a point as in P7, of any class
+-- a point as in P7, with any classification byte
 abbrev pub point7 : ℕ → Bytes
-point7 class =
+point7 byte =
     0xFF ∷ 0xFF ∷ 0xFF ∷ 0xFF ∷ 0x64 ∷ 0x00 ∷ 0x00 ∷ 0x00 ∷ 0x00 ∷ 0x00 ∷ 0x00 ∷ 0x00
-    ∷ 0x2C ∷ 0x01 ∷ 0x11 ∷ class ∷ 0xFD ∷ 0x00 ∷ 0x07 ∷ 0x00 ∷ []
+    ∷ 0x2C ∷ 0x01 ∷ 0x11 ∷ byte ∷ 0xFD ∷ 0x00 ∷ 0x07 ∷ 0x00 ∷ []
 
 -- 0.5 and 10 as doubles
 abbrev pub half : Bytes
@@ -89,13 +90,15 @@ file9 = join fields9
 abbrev pub whole : List ℕ → List ℤ
 whole ns = map pos ns
 
--- X, Y, Z, intensity, return number, number of returns, class, angle, user data, source ID
+-- X, Y, Z, intensity, return number, number of returns, class, angle, user data, source ID, and the flags: synthetic,
+-- key point, withheld
 unfoldable pub fieldsOf : Decoded → List ℤ
 fieldsOf (Refused n) = []
 fieldsOf (Fields q) =
     q .x ∷ q .y ∷ q .z
-    ∷ pos (q .intensity) ∷ pos (q .«return_number») ∷ pos (q .returns) ∷ pos (q .«class_byte»)
-    ∷ q .«scan_angle» ∷ pos (q .«user_data») ∷ pos (q .«source_id») ∷ []
+    ∷ pos (q .intensity) ∷ pos (q .«return_number») ∷ pos (q .returns) ∷ pos (q .classification)
+    ∷ q .«scan_angle» ∷ pos (q .«user_data») ∷ pos (q .«source_id»)
+    ∷ pos (boolByte (q .synthetic)) ∷ pos (boolByte (q .«key_point»)) ∷ pos (boolByte (q .withheld)) ∷ []
 
 -- the four numbers returned
 unfoldable pub fourNumbers : Outcome → List ℤ
@@ -116,7 +119,8 @@ samples =
     -- P7
     ∷ (
       fieldsOf (decoded 0 20 (point7 2)),
-      negsuc 0 ∷ pos 100 ∷ pos 0 ∷ pos 300 ∷ pos 1 ∷ pos 2 ∷ pos 2 ∷ negsuc 2 ∷ pos 0 ∷ pos 7 ∷ [],
+      negsuc 0 ∷ pos 100 ∷ pos 0 ∷ pos 300 ∷ pos 1 ∷ pos 2 ∷ pos 2 ∷ negsuc 2 ∷ pos 0 ∷ pos 7
+          ∷ pos 0 ∷ pos 0 ∷ pos 0 ∷ [],
     )
     -- P8
     ∷ (

@@ -1,6 +1,5 @@
 -- `points::decode` meets its contract. Assumes nothing.
 use mathlib.Core.Path.{sym, ap, _∙_}
-use native.Mathlib.Omega.{arith}
 use denote.Ref.{now}
 use lib.ListN.{length}
 use Rattle.points.specs.declared.layouts.Layout.{Layout}
@@ -24,31 +23,17 @@ time-in-requires c κs at e =
     let a = i .before .before .before .args in
     time-there (a .format) (length (a .bytes .now)) (shape-found _ _ _ _ (i .before .has-shape .ensures) (i .if1 .left)) (l .layout-of .result) (l .layout-of .ensures) at e
 
-u16-in-requires : tie.Need-u16-in-requires
-u16-in-requires c κs at e =
+colour-in-requires : tie.Need-colour-in-requires
+colour-in-requires c κs at e =
     let l = c .before .before in
     let i = l .before in
     let a = i .before .before .before .args in
-    omega (arith, colour-there (a .format) (length (a .bytes .now)) (shape-found _ _ _ _ (i .before .has-shape .ensures) (i .if1 .left)) (l .layout-of .result) (l .layout-of .ensures) at e)
-
-u16-in-requires-2 : tie.Need-u16-in-requires-2
-u16-in-requires-2 c κs at e =
-    let l = c .before .before .before in
-    let i = l .before in
-    let a = i .before .before .before .args in
-    omega (arith, colour-there (a .format) (length (a .bytes .now)) (shape-found _ _ _ _ (i .before .has-shape .ensures) (i .if1 .left)) (l .layout-of .result) (l .layout-of .ensures) at e)
-
-u16-in-requires-3 : tie.Need-u16-in-requires-3
-u16-in-requires-3 c κs at e =
-    let l = c .before .before .before .before in
-    let i = l .before in
-    let a = i .before .before .before .args in
-    omega (arith, colour-there (a .format) (length (a .bytes .now)) (shape-found _ _ _ _ (i .before .has-shape .ensures) (i .if1 .left)) (l .layout-of .result) (l .layout-of .ensures) at e)
+    colour-there (a .format) (length (a .bytes .now)) (shape-found _ _ _ _ (i .before .has-shape .ensures) (i .if1 .left)) (l .layout-of .result) (l .layout-of .ensures) at e
 
 returns-2 : tie.Need-returns-2
 unfolding layoutOf
 returns-2 c =
-    let p = c .before .before .before .before in
+    let p = c .before .before in
     let a = p .before .before .before .before .before .args in
     let f = a .format in
     let s = a .bytes .now in
@@ -56,10 +41,10 @@ returns-2 c =
     let colour = ap (λ (l : Layout). l .colour) (p .before .layout-of .ensures) in
     ap Fields
     (with-others f s (p .shared-of .result) _ _ _ _ (p .shared-of .ensures)
-    (c .before .before .before .time-in .ensures ∙ ap (λ (k : Place). numberIn 8 k 0 s) time)
-    (c .before .before .u16-in .ensures ∙ ap (λ (k : Place). numberIn 2 k 0 s) colour)
-    (c .before .u16-in2 .ensures ∙ ap (λ (k : Place). numberIn 2 k 2 s) colour)
-    (c .u16-in3 .ensures ∙ ap (λ (k : Place). numberIn 2 k 4 s) colour))
+    (c .before .time-in .ensures ∙ ap (λ (k : Place). numberIn 8 k 0 s) time)
+    (c .colour-in .ensures .0 ∙ ap (λ (k : Place). numberIn 2 k 0 s) colour)
+    (c .colour-in .ensures .1 ∙ ap (λ (k : Place). numberIn 2 k 2 s) colour)
+    (c .colour-in .ensures .2 ∙ ap (λ (k : Place). numberIn 2 k 4 s) colour))
     ∙ sym (accepted-by f (a .record-length) s _ (p .before .before .before .has-shape .ensures) (p .before .before .if1 .left))
 
 pub decode-spec : {M : Type 1} → statement M
@@ -71,7 +56,5 @@ decode-spec =
     (λ c κs. tt)
     (λ c κs. tt)
     time-in-requires
-    u16-in-requires
-    u16-in-requires-2
-    u16-in-requires-3
+    colour-in-requires
     returns-2)

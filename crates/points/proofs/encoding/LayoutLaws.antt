@@ -23,14 +23,14 @@ use Rattle.points.specs.Encoding.{sharedFields, ifPlaced, storedAt, with
 abbrev pub sharedWidths : List ℕ
 sharedWidths = 4 ∷ 4 ∷ 4 ∷ 2 ∷ 1 ∷ 1 ∷ 1 ∷ 1 ∷ 2 ∷ []
 
-pub shared-fit : (q : Point) → Fit sharedWidths (sharedFields q)
+pub shared-fit : (f : ℕ) (q : Point) → Fit sharedWidths (sharedFields f q)
 unfolding sharedFields
-shared-fit q =
+shared-fit f q =
     (length-bytesOf 4 _, (length-bytesOf 4 _, (length-bytesOf 4 _, (length-bytesOf 2 _, (length-bytesOf 1 _, (length-bytesOf 1 _, (length-bytesOf 1 _, (length-bytesOf 1 _, (length-bytesOf 2 _, tt)))))))))
 
-pub length-shared : (q : Point) → length (join (sharedFields q)) ≡ 20
+pub length-shared : (f : ℕ) (q : Point) → length (join (sharedFields f q)) ≡ 20
 unfolding total
-length-shared q = length-join sharedWidths (sharedFields q) (shared-fit q)
+length-shared f q = length-join sharedWidths (sharedFields f q) (shared-fit f q)
 
 pub length-placed : (place : Place) (ws : List ℕ) (fs : List Bytes) → Fit ws fs → length (join (ifPlaced place fs)) ≡ widthIf place (total (λ n. n) ws)
 unfolding ifPlaced join
@@ -47,18 +47,18 @@ length-colour place q =
     length-placed place (2 ∷ 2 ∷ 2 ∷ []) _ (length-bytesOf 2 (q .red), (length-bytesOf 2 (q .green), (length-bytesOf 2 (q .blue), tt)))
 
 -- the bytes of a point, group by group
-pub bytes-groups : (f : ℕ) (q : Point) → pointBytes f q ≡ join (sharedFields q) ++ (join (timeFields (timePlace f) q) ++ join (colourFields (colourPlace f) q))
+pub bytes-groups : (f : ℕ) (q : Point) → pointBytes f q ≡ join (sharedFields f q) ++ (join (timeFields (timePlace f) q) ++ join (colourFields (colourPlace f) q))
 unfolding pointBytes pointFields
 bytes-groups f q =
-    join-append (sharedFields q) (timeFields (timePlace f) q ++ colourFields (colourPlace f) q)
-    ∙ ap (λ (b : Bytes). join (sharedFields q) ++ b) (join-append (timeFields (timePlace f) q) (colourFields (colourPlace f) q))
+    join-append (sharedFields f q) (timeFields (timePlace f) q ++ colourFields (colourPlace f) q)
+    ∙ ap (λ (b : Bytes). join (sharedFields f q) ++ b) (join-append (timeFields (timePlace f) q) (colourFields (colourPlace f) q))
 
 pub length-bytes : (f : ℕ) (q : Point) → f ≤ 3 → length (pointBytes f q) ≡ formatSize f
 length-bytes f q h =
     let t = timePlace f in
     let k = colourPlace f in
     ap length (bytes-groups f q)
-    ∙ simp (length-append, length-shared q, length-time t q, length-colour k q) (omega (arith, layered f .size h))
+    ∙ simp (length-append, length-shared f q, length-time t q, length-colour k q) (omega (arith, layered f .size h))
 
 -- ---- fields at a place, written behind what is written
 
@@ -76,22 +76,22 @@ stored-before Absent n b s room f h = refl
 stored-before (At at) n b s room f h = sets-swap room 0 at s b (omega arith)
 
 -- the room after GPS time and colour, and after the shared fields
-pub all-stored : (f : ℕ) (q : Point) (room others whole : Bytes) → others ≡ withOthers f q room → whole ≡ sets others 0 (join (sharedFields q))
+pub all-stored : (f : ℕ) (q : Point) (room others whole : Bytes) → others ≡ withOthers f q room → whole ≡ sets others 0 (join (sharedFields f q))
     → whole ≡ sets room 0 (pointBytes f q)
 unfolding timeFields colourFields
 all-stored f q room others whole first then =
     let t = timePlace f in
     let k = colourPlace f in
-    let s = join (sharedFields q) in
+    let s = join (sharedFields f q) in
     let b = join (timeFields t q) in
     let c = join (colourFields k q) in
-    let front : length s ≤ 20 = omega (arith, length-shared q) in
+    let front : length s ≤ 20 = omega (arith, length-shared f q) in
     let swapped : sets others 0 s ≡ storedAt k c (storedAt t b (sets room 0 s)) =
     ap (λ (r : Bytes). sets r 0 s) first
     ∙ stored-before k (20 + widthIf t 8) c s (storedAt t b room) (layered f .colour) (omega arith)
     ∙ ap (storedAt k c) (stored-before t 20 b s room (layered f .time) front) in
-    let time : Follows t (length s) = rw (length-shared q) (layered f .time) in
-    let wide : length (s ++ b) ≡ 20 + widthIf t 8 = length-append s b ∙ rw (length-shared q, length-time t q) in
+    let time : Follows t (length s) = rw (length-shared f q) (layered f .time) in
+    let wide : length (s ++ b) ≡ 20 + widthIf t 8 = length-append s b ∙ rw (length-shared f q, length-time t q) in
     let colour : Follows k (length (s ++ b)) = rw wide (layered f .colour) in
     then
     ∙ swapped

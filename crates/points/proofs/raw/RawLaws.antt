@@ -1,24 +1,52 @@
--- Laws of a record's class, return number and stored coordinates.
+-- Laws of a record's class, flags, return number and stored coordinates.
 -- Assumes nothing.
 use mathlib.Core.Path.{_≡_, refl, ap}
-use Prim.Native.Nat.{ℕ, suc, _-_, _*_, _^_, _≤_, _<_}
+use Prim.Native.Nat.{ℕ, zero, suc, _+_, _-_, _*_, _/_, _%_, _^_, _≤_, _<_}
 use native.Mathlib.Omega.{arith}
 use mathlib.Core.Bool.{Bool, true, false}
 use lib.ListN.{take}
 use lib.Seq.{getD-take}
-use lib.Dec.{ltb}
+use lib.Dec.{ltb, eqb}
 use lib.IntN.{ℤ, pos, negsuc, natAbs}
 use mir.Syntax.{w32}
-use mir.Val.{SFits, toZ, sel}
+use mir.Val.{SFits, toZ, sel, boolByte}
 use borrow.Author.Tests.{ltb-true, ltb-false}
 use Rattle.fields.specs.Bytes.{Bytes, AllBytes, part, num}
 use Rattle.fields.proofs.ByteLaws.{part-take}
-use Rattle.points.specs.Raw.{bits, classOf, returnOf, stored, storedOf}
+use Rattle.points.specs.Raw.{bits, bit, classIn, syntheticIn, keyPointIn, withheldIn, classByte, classOf, syntheticOf, keyPointOf, withheldOf, returnOf, stored, storedOf}
 
--- a class is one byte
-pub class-byte : (f : ℕ) (p : Bytes) → AllBytes p → classOf f p < 256
-unfolding classOf
+-- a bit as a number
+pub bit-value : (n b : ℕ) → boolByte (bit n b) ≡ bits n 1 b
+unfolding bit bits
+bit-value n b = go (b / 2 ^ n % 2) (omega arith)
+  where
+    go : (k : ℕ) → k ≤ 1 → boolByte (eqb k 1) ≡ k
+    go zero h = refl
+    go (suc zero) h = refl
+    go (suc (suc k)) h = absurd (omega arith)
+
+-- ---- class and flags
+
+-- a classification byte is a byte
+pub class-byte : (f : ℕ) (p : Bytes) → AllBytes p → classByte f p < 256
+unfolding classByte
 class-byte f p h = h 15
+
+-- a class is five bits
+pub class-small : (f : ℕ) (p : Bytes) → classOf f p < 32
+unfolding classOf classIn bits
+class-small f p = omega arith
+
+-- class and flags, joined, are the classification byte
+pub parts-joined : (f : ℕ) (p : Bytes) → classByte f p < 256
+    → classOf f p + 32 * boolByte (syntheticOf f p) + 64 * boolByte (keyPointOf f p) + 128 * boolByte (withheldOf f p) ≡ classByte f p
+unfolding bits classOf syntheticOf keyPointOf withheldOf classIn syntheticIn keyPointIn withheldIn
+parts-joined f p h =
+    let b = classByte f p in
+    let low : b / 32 ≡ b / 32 % 2 + 2 * (b / 64) = omega arith in
+    let high : b / 64 ≡ b / 64 % 2 + 2 * (b / 128) = omega arith in
+    let top : b / 128 % 2 ≡ b / 128 = omega arith in
+    rw (bit-value 5 b, bit-value 6 b, bit-value 7 b) (omega (arith, low, high, top))
 
 -- a return number is three bits
 pub return-small : (f : ℕ) (p : Bytes) → returnOf f p < 8
@@ -27,9 +55,17 @@ return-small f p = omega arith
 
 -- ---- the first 20 bytes decide
 
+byte-front : (f n : ℕ) (p : Bytes) → 20 ≤ n → classByte f (take n p) ≡ classByte f p
+unfolding classByte
+byte-front f n p h = getD-take n p 15 0 (omega arith)
+
 pub class-front : (f n : ℕ) (p : Bytes) → 20 ≤ n → classOf f (take n p) ≡ classOf f p
 unfolding classOf
-class-front f n p h = getD-take n p 15 0 (omega arith)
+class-front f n p h = ap (classIn f) (byte-front f n p h)
+
+pub withheld-front : (f n : ℕ) (p : Bytes) → 20 ≤ n → withheldOf f (take n p) ≡ withheldOf f p
+unfolding withheldOf
+withheld-front f n p h = ap (withheldIn f) (byte-front f n p h)
 
 pub return-front : (f n : ℕ) (p : Bytes) → 20 ≤ n → returnOf f (take n p) ≡ returnOf f p
 unfolding returnOf

@@ -30,8 +30,8 @@ file-passes c = sym (c .before .before .check-file .ensures) ∙ c .enum-told .g
 sheet-passes : (c : tie.After-enum-told2) → sheetVerdict (now (c .before .before .before .before .before .before .before .before .before .args .sheet)) ≡ Passes
 sheet-passes c = sym (c .before .before .check-sheet .ensures) ∙ c .enum-told2 .given .1
 
-sizes : (c : tie.After-measure) → let a = c .before .before .before .before .before .before .before .before .before .before .before .args in Sized (now (a .sheet)) (now (a .file)) (c .before .class-table .result) (c .measure .result)
-sizes c = sized _ _ (file-bytes (c .before .before .before .before .before .before .before .before .before .before)) (file-passes (c .before .before .before .before .before)) (c .before .class-table .result) (c .before .class-table .ensures) _ (c .measure .ensures)
+sizes : (c : tie.After-table-for) → let a = c .before .before .before .before .before .before .before .before .before .before .before .args in Sized (now (a .sheet)) (now (a .file)) (c .table-for .result) (c .before .measure .result)
+sizes c = sized _ _ (file-bytes (c .before .before .before .before .before .before .before .before .before .before)) (file-passes (c .before .before .before .before .before)) (c .table-for .result) (c .table-for .ensures) _ (c .before .measure .ensures)
 
 check-file-requires : tie.Need-check-file-requires
 check-file-requires c κs = search needs
@@ -57,11 +57,11 @@ returns-2 c = sym (refused-by-sheet _ _ _ (file-passes (c .before .before .befor
 enum-told-2 : tie.Need-enum-told-2
 enum-told-2 c = search needs
 
-class-table-requires : tie.Need-class-table-requires
-class-table-requires c κs = search needs
-
 measure-requires : tie.Need-measure-requires
 measure-requires c κs = search needs
+
+table-for-requires : tie.Need-table-for-requires
+table-for-requires c κs = search needs
 
 add-start : tie.Need-add-start
 add-start c = omega (arith, sizes (c .before) .most, c .before .before .before .before .before .before .before .before .before .before .before .before .good)
@@ -74,8 +74,8 @@ returns-3 : tie.Need-returns-3
 returns-3 c =
     let a = c .before .before .before .before .before .before .before .before .before .before .before .before .before .before .before .args in
     let m = sizes (c .before .before .before .before) in
-    let table = c .before .before .before .before .before .class-table .result in
-    let start = headerBlock + c .before .before .before .before .measure .result .length in
+    let table = c .before .before .before .before .table-for .result in
+    let start = headerBlock + c .before .before .before .before .before .measure .result .length in
     let asked = c .before .room-for in
     let needed : asked .result ≡ length (render (publicOf (now (a .sheet)) (now (a .file)))) =
     asked .ensures ∙ asked-short table (now (a .file)) start (length (now (a .out))) (omega (arith, asked .ensures)) ∙ m .needed in
@@ -86,7 +86,7 @@ write-requires : tie.Need-write-requires
 write-requires c κs =
     let a = c .before .before .before .before .before .before .before .before .before .before .before .before .before .before .before .before .before .args in
     let asked = c .before .before .before .room-for in
-    asked-enough (c .before .before .before .before .before .before .before .class-table .result) (now (a .file)) (headerBlock + c .before .before .before .before .before .before .measure .result .length) (length (now (a .out))) (omega (arith, asked .ensures))
+    asked-enough (c .before .before .before .before .before .before .table-for .result) (now (a .file)) (headerBlock + c .before .before .before .before .before .before .before .measure .result .length) (length (now (a .out))) (omega (arith, asked .ensures))
 
 record-length-requires : tie.Need-record-length-requires
 record-length-requires c κs = search needs
@@ -94,16 +94,16 @@ record-length-requires c κs = search needs
 -- the length that is returned
 length-is : (c : tie.After-record-length)
     → let a = c .before .before .before .before .before .before .before .before .before .before .before .before .before .before .before .before .before .before .before .before .before .args in
-    headerBlock + c .before .before .before .before .before .before .before .before .before .before .measure .result .length + c .before .before .before .write .result * c .record-length .result
-    ≡ endOfPoints (c .before .before .before .before .before .before .before .before .before .before .before .class-table .result) (now (a .file)) (headerBlock + c .before .before .before .before .before .before .before .before .before .before .measure .result .length)
+    headerBlock + c .before .before .before .before .before .before .before .before .before .before .before .measure .result .length + c .before .before .before .write .result * c .record-length .result
+    ≡ endOfPoints (c .before .before .before .before .before .before .before .before .before .before .table-for .result) (now (a .file)) (headerBlock + c .before .before .before .before .before .before .before .before .before .before .before .measure .result .length)
 length-is c = rw (points-end, c .before .before .before .write .ensures .0, c .record-length .ensures .0)
 
 small : (c : tie.After-record-length)
     → let a = c .before .before .before .before .before .before .before .before .before .before .before .before .before .before .before .before .before .before .before .before .before .args in
-    endOfPoints (c .before .before .before .before .before .before .before .before .before .before .before .class-table .result) (now (a .file)) (headerBlock + c .before .before .before .before .before .before .before .before .before .before .measure .result .length) < 2 ^ 64
+    endOfPoints (c .before .before .before .before .before .before .before .before .before .before .table-for .result) (now (a .file)) (headerBlock + c .before .before .before .before .before .before .before .before .before .before .before .measure .result .length) < 2 ^ 64
 small c =
     let s = c .before .before .before .before .before .before .before .before .before .before .before .before .before .before .before .before .before .before .before .before .before in
-    omega (arith, end-most (c .before .before .before .before .before .before .before .before .before .before .before .class-table .result) (now (s .args .file)) (headerBlock + c .before .before .before .before .before .before .before .before .before .before .measure .result .length), sizes (c .before .before .before .before .before .before .before .before .before .before) .most, s .good)
+    omega (arith, end-most (c .before .before .before .before .before .before .before .before .before .before .table-for .result) (now (s .args .file)) (headerBlock + c .before .before .before .before .before .before .before .before .before .before .before .measure .result .length), sizes (c .before .before .before .before .before .before .before .before .before .before) .most, s .good)
 
 mul-length : tie.Need-mul-length
 mul-length c = omega (arith, length-is c, small c)
@@ -121,7 +121,7 @@ output-is : (c : tie.After-record-length)
     length (render p) ≤ length (now (a .out)) → c .before .before .before .write .last .1 .1 .1 .1 .1 .0 ≡ render p ++ zeros (length (now (a .out)) - length (render p))
 output-is c room =
     let a = c .before .before .before .before .before .before .before .before .before .before .before .before .before .before .before .before .before .before .before .before .before .args in
-    let table = c .before .before .before .before .before .before .before .before .before .before .before .class-table in
+    let table = c .before .before .before .before .before .before .before .before .before .before .table-for in
     let m = sizes (c .before .before .before .before .before .before .before .before .before .before) in
     c .before .before .before .write .ensures .1
     ∙ rw (m .records, m .offset) (assembled (now (a .sheet)) (now (a .file)) (file-bytes (c .before .before .before .before .before .before .before .before .before .before .before .before .before .before .before .before .before .before .before .before)) (file-passes (c .before .before .before .before .before .before .before .before .before .before .before .before .before .before .before)) (table .result) (table .ensures) (now (a .out)) room)
@@ -132,9 +132,9 @@ returns-4 c =
     let a = c .before .before .before .before .before .before .before .before .before .before .before .before .before .before .before .before .before .before .before .before .before .args in
     let p = publicOf (now (a .sheet)) (now (a .file)) in
     let m = sizes (c .before .before .before .before .before .before .before .before .before .before) in
-    let k = c .before .before .before .before .before .before .before .before .before .before .measure .result in
+    let k = c .before .before .before .before .before .before .before .before .before .before .before .measure .result in
     let wrote = c .before .before .before .write in
-    let enough = asked-enough (c .before .before .before .before .before .before .before .before .before .before .before .class-table .result) (now (a .file)) (headerBlock + k .length) (length (now (a .out))) (omega (arith, c .before .before .before .before .before .before .before .room-for .ensures)) in
+    let enough = asked-enough (c .before .before .before .before .before .before .before .before .before .before .table-for .result) (now (a .file)) (headerBlock + k .length) (length (now (a .out))) (omega (arith, c .before .before .before .before .before .before .before .room-for .ensures)) in
     let room : length (render p) ≤ length (now (a .out)) = omega (arith, enough, m .needed) in
     let long : headerBlock + k .length + wrote .result * c .record-length .result ≡ length (render p) = length-is c ∙ m .needed in
     let number : wrote .result ≡ length (p .points) = wrote .ensures .0 ∙ m .points in
@@ -155,8 +155,8 @@ release-spec =
     enum-known-sheet-verdict
     returns-2
     enum-told-2
-    class-table-requires
     measure-requires
+    table-for-requires
     add-start
     room-for-requires
     returns-3

@@ -1,14 +1,13 @@
 -- The bytes of the fields that a record was read as are the record's own, up to the format's size.
 -- Assumes nothing.
 use mathlib.Core.Path.{_≡_, refl, sym, ap, _∙_}
-use Prim.Native.Nat.{ℕ, zero, suc, _+_, _/_, _%_, _^_, _≤_, _<_}
+use Prim.Native.Nat.{ℕ, _+_, _^_, _≤_, _<_}
 use native.Mathlib.Omega.{arith}
 use mathlib.Core.List.{List, [], _∷_, _++_}
 use lib.ListN.{length, take, drop, getD}
 use lib.Seq.{take-add, drop-drop}
-use lib.Dec.{eqb}
 use mir.Syntax.{Width, w8, w32}
-use mir.Val.{toZ, ofZ, boolByte, bits as widthBits}
+use mir.Val.{toZ, ofZ, bits as widthBits}
 use mir.ValLaws.{ofZ-toZ}
 use Rattle.fields.specs.Lists.{total}
 use Rattle.fields.specs.Bytes.{Bytes, AllBytes, part, num, bytesOf, join}
@@ -18,8 +17,9 @@ use Rattle.points.specs.declared.formats.Place.the-variants.{At, Absent}
 use Rattle.points.specs.Formats.{formatSize, timePlace, colourPlace}
 use Rattle.points.proofs.formats.FormatLaws.{Follows, widthIf, layered}
 use Rattle.points.specs.Points.{numberIn, pointOf}
-use Rattle.points.specs.Raw.{bits, returnOf, classOf, stored}
-use Rattle.points.specs.Encoding.{flagByte, sharedFields, ifPlaced, timeFields, colours, colourFields, pointBytes}
+use Rattle.points.specs.Raw.{bits, classByte, returnOf, stored}
+use Rattle.points.proofs.raw.RawLaws.{bit-value, parts-joined}
+use Rattle.points.specs.Encoding.{flagByte, joinedClass, sharedFields, ifPlaced, timeFields, colours, colourFields, pointBytes}
 use Rattle.points.proofs.encoding.LayoutLaws.{sharedWidths, bytes-groups}
 
 -- ---- one field
@@ -46,18 +46,15 @@ module _ (s : Bytes) (all : AllBytes s) where
   unfolding numberIn
   placed-back at w shift h = number-back (at + shift) w h
 
--- ---- the byte at 14
-
-bit-back : (n : ℕ) → n ≤ 1 → boolByte (eqb n 1) ≡ n
-bit-back zero h = refl
-bit-back (suc zero) h = refl
-bit-back (suc (suc n)) h = absurd (omega arith)
+-- ---- the bytes at 14 and 15
 
 flags-back : (f : ℕ) (s : Bytes) → getD s 14 0 < 256 → flagByte (pointOf f s) ≡ getD s 14 0
 unfolding flagByte pointOf bits returnOf
-flags-back f s h =
-    let b = getD s 14 0 in
-    omega (arith, bit-back (b / 64 % 2) (omega arith), bit-back (b / 128 % 2) (omega arith))
+flags-back f s h = let b = getD s 14 0 in rw (bit-value 6 b, bit-value 7 b) (omega arith)
+
+class-back : (f : ℕ) (s : Bytes) → getD s 15 0 < 256 → joinedClass f (pointOf f s) ≡ getD s 15 0
+unfolding joinedClass pointOf classByte
+class-back f s h = parts-joined f s h
 
 -- ---- parts back to back
 
@@ -104,11 +101,14 @@ module _ (f : ℕ) (s : Bytes) (all : AllBytes s) where
   flags-part : 20 ≤ length s → bytesOf 1 (flagByte (pointOf f s)) ≡ part 14 1 s
   flags-part h = ap (bytesOf 1) (flags-back f s (all 14)) ∙ byte-back s all 14 (omega arith)
 
+  class-part : 20 ≤ length s → bytesOf 1 (joinedClass f (pointOf f s)) ≡ part 15 1 s
+  class-part h = ap (bytesOf 1) (class-back f s (all 15)) ∙ byte-back s all 15 (omega arith)
+
   angle-part : 20 ≤ length s → bytesOf 1 (ofZ w8 (toZ w8 (getD s 16 0))) ≡ part 16 1 s
   angle-part h = rw (← num-part-one 16 s) (signed-back s all w8 16 1 refl (omega arith))
 
-  shared-parts : 20 ≤ length s → sharedFields (pointOf f s) ≡ partsFrom 0 sharedWidths s
-  unfolding sharedFields pointOf stored classOf
+  shared-parts : 20 ≤ length s → sharedFields f (pointOf f s) ≡ partsFrom 0 sharedWidths s
+  unfolding sharedFields pointOf stored
   shared-parts h =
       rw (
         signed-back s all w32 0 4 refl (omega arith),
@@ -116,13 +116,13 @@ module _ (f : ℕ) (s : Bytes) (all : AllBytes s) where
         signed-back s all w32 8 4 refl (omega arith),
         number-back s all 12 2 (omega arith),
         flags-part h,
-        byte-back s all 15 (omega arith),
+        class-part h,
         angle-part h,
         byte-back s all 17 (omega arith),
         number-back s all 18 2 (omega arith),
       )
 
-  shared-back : 20 ≤ length s → join (sharedFields (pointOf f s)) ≡ part 0 20 s
+  shared-back : 20 ≤ length s → join (sharedFields f (pointOf f s)) ≡ part 0 20 s
   unfolding total
   shared-back h = ap join (shared-parts h) ∙ join-parts 0 sharedWidths s
 

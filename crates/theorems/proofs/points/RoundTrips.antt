@@ -17,7 +17,7 @@ use Rattle.points.specs.Formats.{formatSize, timePlace, colourPlace}
 use Rattle.points.specs.declared.Point.{Point}
 use Rattle.points.specs.declared.Decoded.the-variants.{Fields}
 use Rattle.points.specs.Points.{pointOf, shape, decodeChecks, fieldsIf, decoded}
-use Rattle.points.specs.Raw.{bits, returnOf}
+use Rattle.points.specs.Raw.{bits, classIn, classOf, returnOf}
 use Rattle.points.specs.Encoding.{sharedFields, timeFields, colourFields, pointBytes, large, encodeChecks, storedIf, encoded, blank, InRange}
 use Rattle.theorems.specs.RoundTrips.{RoundTrips}
 use Rattle.points.proofs.AnswerLaws.{accepted}
@@ -50,10 +50,10 @@ was-decoded f len s q e =
     let g : (firstFailing (decodeChecks f len s) ≡ Passes) × (pointOf f s ≡ q) = fields-given (firstFailing (decodeChecks f len s)) (pointOf f s) q e in
     (none-fails (decodeChecks f len s) (g .0) .0, g .1)
 
--- three bits are at most 7
-not-large : (f : ℕ) (s : Bytes) → Clear (large (pointOf f s))
-unfolding pointOf bits large returnOf
-not-large f s = (omega arith, omega arith)
+-- three bits are at most 7, and five at most 31
+not-large : (f : ℕ) (s : Bytes) → Clear (large f (pointOf f s))
+unfolding pointOf bits large returnOf classOf classIn
+not-large f s = (omega arith, (omega arith, omega arith))
 
 front-stored : (b room : Bytes) (n : ℕ) → length b ≡ n → n ≤ length room → sets room 0 b ≡ b ++ drop n room
 front-stored b room n e h = sets-eq b room 0 (omega arith) ∙ rw (zero-add (length b), e)
@@ -73,7 +73,7 @@ encode-after-decode f len bytes room q all e same extra =
     let k : Shaped f len (length bytes) = shaped f len (length bytes) (g .0) in
     let c : Clear (shape f len (length room)) = rw same (g .0) in
     rw (← g .1)
-    (stored f len (pointOf f bytes) room (unclear (shape f len (length room)) c) (unclear (large (pointOf f bytes)) (not-large f bytes))
+    (stored f len (pointOf f bytes) room (unclear (shape f len (length room)) c) (unclear (large f (pointOf f bytes)) (not-large f bytes))
     ∙ ap (λ (b : Bytes). (Passes, b)) (own-bytes f bytes room all (k .format) (omega arith) same extra))
 
 -- ---- fields from bytes
@@ -84,33 +84,33 @@ stored-passes Passes b room e = refl
 stored-passes (Fails n) b room e = e
 
 was-encoded : (f len : ℕ) (q : Point) (room : Bytes) → encoded f len q room .0 ≡ Passes
-    → Clear (shape f len (length room)) × Clear (large q)
+    → Clear (shape f len (length room)) × Clear (large f q)
 unfolding encoded encodeChecks
 was-encoded f len q room e =
     let g = none-fails (encodeChecks f len q room) (stored-passes (firstFailing (encodeChecks f len q room)) (pointBytes f q) room e) in
     (g .0, g .1 .0)
 
-own-fields : (f : ℕ) (q : Point) (room : Bytes) → InRange q → Clear (large q) → f ≤ 3 → formatSize f ≤ length room
+own-fields : (f : ℕ) (q : Point) (room : Bytes) → InRange q → Clear (large f q) → f ≤ 3 → formatSize f ≤ length room
     → pointOf f (sets room 0 (pointBytes f q)) ≡ blank f q
 unfolding large
 own-fields f q room r small le h =
-    let shared = join (sharedFields q) in
+    let shared = join (sharedFields f q) in
     let time = join (timeFields (timePlace f) q) in
     let colour = join (colourFields (colourPlace f) q) in
     let rest = drop (formatSize f) room in
     let whole : sets room 0 (pointBytes f q) ≡ shared ++ (time ++ (colour ++ rest)) =
     front-stored (pointBytes f q) room (formatSize f) (length-bytes f q le) h
     ∙ rw (bytes-groups f q, append-assoc shared (time ++ colour) rest, append-assoc time colour rest) in
-    rw whole (fields-back f q rest r (small .0) (small .1))
+    rw whole (fields-back f q rest r (small .0) (small .1 .0) (small .1 .1))
 
 decode-after-encode : (f len : ℕ) (room : Bytes) (q : Point) → InRange q → encoded f len q room .0 ≡ Passes
     → decoded f len (encoded f len q room .1) ≡ Fields (blank f q)
 decode-after-encode f len room q r e =
-    let g : Clear (shape f len (length room)) × Clear (large q) = was-encoded f len q room e in
+    let g : Clear (shape f len (length room)) × Clear (large f q) = was-encoded f len q room e in
     let k : Shaped f len (length room) = shaped f len (length room) (g .0) in
     let after = sets room 0 (pointBytes f q) in
     let c : Clear (shape f len (length after)) = rw (length-sets room 0 (pointBytes f q)) (g .0) in
-    rw (stored f len q room (unclear (shape f len (length room)) (g .0)) (unclear (large q) (g .1)))
+    rw (stored f len q room (unclear (shape f len (length room)) (g .0)) (unclear (large f q) (g .1)))
     (accepted f len after (unclear (shape f len (length after)) c) ∙ ap Fields (own-fields f q room r (g .1) (k .format) (omega arith)))
 
 -- ---- extra bytes
@@ -118,12 +118,12 @@ decode-after-encode f len room q r e =
 extra-stay : (f len : ℕ) (q : Point) (room : Bytes) → encoded f len q room .0 ≡ Passes
     → drop (formatSize f) (encoded f len q room .1) ≡ drop (formatSize f) room
 extra-stay f len q room e =
-    let g : Clear (shape f len (length room)) × Clear (large q) = was-encoded f len q room e in
+    let g : Clear (shape f len (length room)) × Clear (large f q) = was-encoded f len q room e in
     let k : Shaped f len (length room) = shaped f len (length room) (g .0) in
     let n = formatSize f in
     let size : length (pointBytes f q) ≡ n = length-bytes f q (k .format) in
     rw (
-      stored f len q room (unclear (shape f len (length room)) (g .0)) (unclear (large q) (g .1)),
+      stored f len q room (unclear (shape f len (length room)) (g .0)) (unclear (large f q) (g .1)),
       front-stored (pointBytes f q) room n size (omega arith),
     )
     (drop-at (pointBytes f q) (drop n room) n size)

@@ -9,7 +9,7 @@ use Rattle.capi.proofs.point.found_point.Tie as tie
 returns : tie.Need-returns
 unfolding foundPoint
 returns c =
-    let p = c .before .before .before .args .point in
+    let p = c .before .before .before .before .before .before .args .point in
     let told = c .struct-told .given in
     rw (
       toZ-ofZ w32 (p .x) (record { sfits = told .0 .1 }),
@@ -20,4 +20,4 @@ returns c =
     refl
 
 pub found-point-spec : {M : Type 1} → statement M
-found-point-spec = tie.close (tie.spec (λ c. tt) (λ c. tt) returns)
+found-point-spec = tie.close (tie.spec (λ c. tt) (λ c. tt) (λ c. tt) (λ c. tt) (λ c. tt) returns)

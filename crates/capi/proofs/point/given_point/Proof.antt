@@ -9,7 +9,7 @@ use Rattle.capi.proofs.point.given_point.Tie as tie
 returns : tie.Need-returns
 unfolding givenPoint yes
 returns c =
-    let p = c .before .before .before .args .point in
+    let p = c .before .before .before .before .before .before .args .point in
     let told = c .struct-told .given in
     rw (
       toZ-ofZ w32 (p .x) (record { sfits = told .1 .1 .1 .0 .1 }),

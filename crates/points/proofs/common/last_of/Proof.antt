@@ -19,7 +19,7 @@ cast-signed-bits c =
 
 returns : tie.Need-returns
 unfolding sharedFields
-returns c =
+returns c f =
     let s = c .before .before in
     let q = s .before .before .before .args .point in
     let fits : SFits w8 (q .«scan_angle») = record { sfits = s .before .struct-told .given .1 .1 .1 .1 .1 .1 .1 .1 .1 .0 .1 } in

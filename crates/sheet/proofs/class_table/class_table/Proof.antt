@@ -7,27 +7,27 @@ use native.Mathlib.Omega.{arith}
 use borrow.Author.Count.{below-more}
 use lib.ListN.{length, getD, set, length-set}
 use lib.Seq.{getD-set-same, getD-set-other}
-use Rattle.sheet.specs.Keeping.{keepsClass}
+use Rattle.sheet.specs.Keeping.{keepsByte}
 use Rattle.sheet.proofs.class_table.class_table.Statement.{statement}
 use Rattle.sheet.proofs.class_table.class_table.Tie as tie
 
 abbrev Inv-loop : tie.InvT-loop
-Inv-loop sheet table₀ c₀ table c = (c ≤ 256) × (length table ≡ 256) × ((k : ℕ) → k < c → getD table k false ≡ keepsClass sheet k)
+Inv-loop sheet format table₀ b₀ table b = (b ≤ 256) × (length table ≡ 256) × ((k : ℕ) → k < b → getD table k false ≡ keepsByte sheet format k)
 
 abbrev μ-loop : tie.MeasureT-loop
-μ-loop sheet table₀ c₀ table c = 256 - c
+μ-loop sheet format table₀ b₀ table b = 256 - b
 
 loop-holds : tie.Need-loop-holds Inv-loop μ-loop
 loop-holds c = (omega arith, refl, λ k h. absurd (omega arith))
 
-cast-holds-class : tie.Need-cast-holds-class Inv-loop μ-loop
-cast-holds-class c = omega arith
+cast-keeps-byte : tie.Need-cast-keeps-byte Inv-loop μ-loop
+cast-keeps-byte c = omega arith
 
 array-write-table : tie.Need-array-write-table Inv-loop μ-loop
 array-write-table c = omega arith
 
-add-c : tie.Need-add-c Inv-loop μ-loop
-add-c c = omega arith
+add-b : tie.Need-add-b Inv-loop μ-loop
+add-b c = omega arith
 
 loop-less : tie.Need-loop-less Inv-loop μ-loop
 loop-less c = omega arith
@@ -38,9 +38,9 @@ loop-again c =
     let l = c .before .before .loop in (
       omega arith,
       simp length-set (l .inv .1),
-      below-more (λ (k : ℕ). getD (set (l .table) (l .c) (c .holds-class .result)) k false ≡ keepsClass (a .sheet .now) k) (l .c)
-          (λ k less. getD-set-other (l .table) (l .c) k _ false (λ e. omega arith) ∙ l .inv .2 k less)
-          (getD-set-same (l .table) (l .c) _ false (omega arith) ∙ c .holds-class .ensures),
+      below-more (λ (k : ℕ). getD (set (l .table) (l .b) (c .keeps-byte .result)) k false ≡ keepsByte (a .sheet .now) (a .format) k) (l .b)
+          (λ k less. getD-set-other (l .table) (l .b) k _ false (λ e. omega arith) ∙ l .inv .2 k less)
+          (getD-set-same (l .table) (l .b) _ false (omega arith) ∙ c .keeps-byte .ensures),
     )
 
 returns : tie.Need-returns Inv-loop μ-loop
@@ -53,10 +53,10 @@ class-table-spec =
     Inv-loop
     μ-loop
     loop-holds
-    cast-holds-class
+    cast-keeps-byte
     (λ c κs. tt)
     array-write-table
-    add-c
+    add-b
     loop-less
     loop-again
     returns)

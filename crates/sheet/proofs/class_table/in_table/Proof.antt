@@ -13,7 +13,7 @@ returns : tie.Need-returns
 unfolding inTable
 returns c =
     let table = now (c .before .before .before .before .args .table) in
-    ap (λ (class : ℕ). getD table class false) (c .before .wide .ensures .0 ∙ c .before .before .class-of .ensures)
+    ap (λ (byte : ℕ). getD table byte false) (c .before .wide .ensures .0 ∙ c .before .before .class-byte .ensures)
 
 pub in-table-spec : {M : Type 1} → statement M
 in-table-spec = tie.close (tie.spec (λ c κs. tt) (λ c κs. tt) (λ c. search needs) returns)
