@@ -7,6 +7,7 @@ use Prim.Native.Nat.{ℕ, zero, suc, _+_, _-_, _/_, _^_, _≤_, _<_, min}
 use native.Mathlib.Omega.{arith}
 use mathlib.Core.Bool.{Bool, true, false, not, _&&_}
 use mathlib.Core.List.{[], _∷_, _++_}
+use borrow.Author.Tests.{le-leb, lt-leb}
 use lib.Dec.{T, T-not, eqb, eqb-refl, ltb, ltb→lt, lit≤, lit<}
 use lib.ListN.{length, drop, getD, replicate}
 use lib.IntN.{ℤ, pos, negsuc, _+ℤ_, _*ℤ_}
@@ -20,13 +21,13 @@ use Rattle.points.specs.Encoding.{InRange, large, encodeChecks, storedIf, encod
 use Rattle.points.specs.declared.Decoded.the-variants.{Fields}
 use Rattle.points.specs.Formats.{formatSize}
 use Rattle.points.specs.Points.{decoded}
-use Rattle.points.specs.Raw.{returnOf}
+use Rattle.points.specs.Raw.{classOf, syntheticOf, keyPointOf, withheldOf, returnOf}
 use Rattle.scaling.specs.Scaling.{coordinateOf, scalingOf, goodScaling}
 use Rattle.lasfile.specs.Inputs.{inputChecks}
 use Rattle.lasfile.specs.HeaderFields.{headerSize, pointOffset, recordCount, format, recordLength, pointCount}
 use Rattle.lasfile.specs.Records.{places, writtenLength, SoundRecord}
 use Rattle.sheet.specs.Sheet.{sheetVerdict, lines}
-use Rattle.publicpart.specs.Public.{publicOf}
+use Rattle.publicpart.specs.Public.{carriedOf, contents, publicOf}
 use Rattle.publicpart.specs.declared.Answer.the-variants.{Released}
 use Rattle.publicpart.specs.Release.{release}
 use Rattle.capi.specs.Interface.{lasCheckFile, lasCheckSheet, lasReadHeader, lasVlrStep, lasPointAt, lasDecode, lasEncode, lasClassKept, lasRecordKept, lasGeokeyFind, lasRelease, lasMend}
@@ -34,7 +35,7 @@ use Rattle.reader.specs.Header as header
 use Rattle.reader.specs.Header.{headerRead}
 use Rattle.reader.specs.Steps.{recordIf, stepOf}
 use Rattle.reader.specs.OnePoint.{pointIf, pointAtOf}
-use Rattle.sheet.specs.Keeping.{keptUnder, keepsRecord}
+use Rattle.sheet.specs.Keeping.{keptUnder, keepsClass, keepsRecord}
 use Rattle.fields.specs.Text.{cut}
 use Rattle.geokeys.specs.GeoKeys.{first, orLater, isProjection, projectionPlace, fromDirectory, answerIf, lookup}
 use Rattle.capi.specs.Answers.{keptNumbers, mendedNumbers}
@@ -54,7 +55,7 @@ use Rattle.theorems.specs.BoundsOfKept.{Binned}
 use Rattle.theorems.specs.Demand1.{NothingChanged, ZerosBeside, EachNumber}
 use Rattle.theorems.specs.Mending.{Mends, InNoField}
 use Rattle.theorems.specs.Samples.{sheet3, sheet4, sheet5, sheet6, point7, used, half, ten, file9}
-use Rattle.theorems.specs.Instances.{other9, filled, output9, OfOutput9, fields7, numbers7, oneRecord, sheetA7, sheet64, NothingChangedMet, ZerosBesideMet, EachNumberMet, ExactlyMet, ShortMet, AgainMet, RecognisedMet, CompleteMet, NeverLongerMet, BoundsOfKeptMet, SheetsMet, FilesMet, VisitsMet, RoundTripsMet, CoordinatesMet, OwnBitsMet, long7, FirstBytesMet, cut9, pointless9, MendingMet, AB, A-B, sheetSpaces7, named9, TextsMet}
+use Rattle.theorems.specs.Instances.{other9, filled, output9, OfOutput9, fields7, numbers7, oneRecord, sheetA7, sheet64, NothingChangedMet, ZerosBesideMet, EachNumberMet, ExactlyMet, ShortMet, AgainMet, RecognisedMet, CompleteMet, NeverLongerMet, BoundsOfKeptMet, SheetsMet, FilesMet, VisitsMet, RoundTripsMet, CoordinatesMet, OwnBitsMet, long7, FirstBytesMet, cut9, pointless9, MendingMet, AB, A-B, sheetSpaces7, named9, TextsMet, from, second9, first9, ClassesMet}
 use Rattle.theorems.proofs.FirstBytes.{first-bytes}
 use Rattle.theorems.proofs.Samples.{computed}
 use Rattle.theorems.proofs.Demand1.{demand1}
@@ -66,6 +67,8 @@ use Rattle.theorems.proofs.BoundsOfKept.{bounds-of-kept}
 use Rattle.theorems.proofs.Files.{files}
 use Rattle.theorems.proofs.Texts.{plain, texts}
 use Rattle.theorems.specs.Texts.{Plain, IsCut}
+use Rattle.theorems.specs.Classes.{notWithheld}
+use Rattle.theorems.proofs.Classes.{classified, kept-by-class, none-withheld}
 use Rattle.theorems.proofs.Mending.{untouched, marked, right-about-points, mended-twice, keeps-release}
 use Rattle.theorems.proofs.sheet.SheetLaws.{lines-are}
 use Rattle.theorems.proofs.sheet.KeepingLaws.{kept-by-lines}
@@ -563,6 +566,90 @@ texts-met =
           let z : _≡_ {A = ℕ} 2 3 = sym (systems9 .0) ∙ ap (λ p. length (p .carried .system)) parts ∙ systems9 .1 in
           omega arith;
     }
+
+-- ---- classes and flags
+
+second-good9 : (Good (second9 130)) × (Good (second9 66)) × (Good first9)
+unfolding computed all-small
+second-good9 = (
+  record { bytes = all-bytes (second9 130) tt; passes = refl },
+  record { bytes = all-bytes (second9 66) tt; passes = refl },
+  record { bytes = all-bytes first9 tt; passes = refl },
+)
+
+key-point-bytes : AllBytes (point7 66)
+unfolding all-small
+key-point-bytes = all-bytes (point7 66) tt
+
+-- what is computed of these files and points
+pub record ComputedClasses : Type 0 where
+  pub parts : (classOf 0 (point7 66) ≡ 2) × (syntheticOf 0 (point7 66) ≡ false) × (keyPointOf 0 (point7 66) ≡ true)
+      × (withheldOf 0 (point7 66) ≡ false)
+  pub class-2 : keepsClass sheet3 2 ≡ true
+  pub synthetic : (classOf 0 (point7 34) ≡ 2) × (withheldOf 0 (point7 34) ≡ false)
+  pub withheld : withheldOf 0 (point7 130) ≡ true
+  pub carried : carriedOf (second9 130) ≡ carriedOf first9
+  pub records : contents (second9 130) .records ≡ contents first9 .records
+  pub others : notWithheld (second9 130) ≡ notWithheld first9
+  pub needed-each : (needed sheet3 (second9 130) ≡ 255) × (needed sheet3 (second9 66) ≡ 283) × (needed sheet3 first9 ≡ 255)
+  pub counts : (pointCount (second9 130) ≡ 2) × (pointCount first9 ≡ 1)
+  pub points : (length (publicOf sheet3 (second9 66) .points) ≡ 2) × (length (publicOf sheet3 first9 .points) ≡ 1)
+
+computed-classes : ComputedClasses
+unfolding computed
+computed-classes =
+    record {
+      parts = (refl, refl, refl, refl);
+      class-2 = refl;
+      synthetic = (refl, refl);
+      withheld = refl;
+      carried = refl;
+      records = refl;
+      others = refl;
+      needed-each = (refl, refl, refl);
+      counts = (refl, refl);
+      points = (refl, refl);
+    }
+
+-- of classes to 31, a line from 66 to 66 holds none, as the empty sheet
+none-to-31 : (c : ℕ) → c ≤ 31 → keepsClass (from 66 66) c ≡ keepsClass [] c
+unfolding computed
+none-to-31 c h = rw (lt-leb 66 c (omega arith))
+
+-- and one from 20 to 200 those that one from 20 to 31 holds
+same-to-31 : (c : ℕ) → c ≤ 31 → keepsClass (from 20 200) c ≡ keepsClass (from 20 31) c
+unfolding computed
+same-to-31 c h = rw (le-leb c 200 (omega arith), le-leb c 31 h)
+
+pub classes-met : ClassesMet
+classes-met =
+    record {
+      joined = classified .joined 0 (point7 66) key-point-bytes ∙ rw (is .parts .0, is .parts .1, is .parts .2, is .parts .3);
+      to-31 = classified .to-31 0 (point7 255);
+      key-point-kept = kept-by-class .exactly sheet3 0 (point7 66) .1 (rw (is .parts .0) (is .class-2), is .parts .3);
+      synthetic-kept =
+          kept-by-class .other-flags sheet3 0 (point7 34) (point7 66) (is .synthetic .0 ∙ sym (is .parts .0)) (is .synthetic .1 ∙ sym (is .parts .3));
+      withheld-stays = kept-by-class .never-withheld sheet3 0 (point7 130) (is .withheld);
+      withheld-stays-always = kept-by-class .never-withheld (from 0 255) 0 (point7 130) (is .withheld);
+      above-31 = kept-by-class .above-31 (from 66 66) [] none-to-31;
+      across-31 = kept-by-class .above-31 (from 20 200) (from 20 31) same-to-31;
+      none-goes-out = none-withheld .none-goes-out sheet3 file9 (filled 7) 255 1 0 accepted9;
+      files-differ = λ e. omega (arith, ap pointCount e, is .counts .0, is .counts .1);
+      same-public-part = same-part9;
+      withheld-alike =
+          demand3 .exactly sheet3 (second9 130) first9 (filled 7) (filled 9) sheet-passes9 (second-good9 .0) (second-good9 .2) refl
+          (omega (arith, is .needed-each .0)) (omega (arith, is .needed-each .2)) .1 (same-part9 sheet3);
+      key-point-apart = λ same.
+          let parts = demand3 .exactly sheet3 (second9 66) first9 (filled 7) (filled 9) sheet-passes9 (second-good9 .1) (second-good9 .2) refl
+          (omega (arith, is .needed-each .1)) (omega (arith, is .needed-each .2)) .0 same in
+          omega (arith, ap (λ p. length (p .points)) parts, is .points .0, is .points .1);
+    }
+  where
+    is : ComputedClasses
+    is = computed-classes
+
+    same-part9 : (sheet : Bytes) → publicOf sheet (second9 130) ≡ publicOf sheet first9
+    same-part9 sheet = none-withheld .same-public-part sheet (second9 130) first9 (is .carried) (is .records) (is .others)
 
 -- ---- coordinates
 

@@ -15,6 +15,7 @@ pub mod FirstBytes
 pub mod Samples
 pub mod points
 pub mod sheet
+pub mod Classes
 pub mod scaling
 pub mod reader
 pub mod capi

@@ -2,7 +2,7 @@
 -- added or stronger hypothesis has made empty is refused here.
 -- Assumes nothing.
 use mathlib.Core.Path.{_≡_}
-use Prim.Native.Nat.{ℕ, _≤_}
+use Prim.Native.Nat.{ℕ, _+_, _*_, _≤_}
 use mathlib.Core.List.{[], _∷_, _++_}
 use lib.Dec.{T}
 use lib.ListN.{length, drop, getD, replicate, take}
@@ -10,12 +10,14 @@ use lib.IntN.{ℤ, pos, negsuc, _+ℤ_, _*ℤ_}
 use lib.Ieee.{Float, binary64, fin, le, ofInt}
 use lib.Ieee.Scale.{finite}
 use mathlib.Core.Bool.{true, false}
+use Rattle.fields.specs.Lists.{All}
 use Rattle.fields.specs.Bytes.{Bytes, part, num, zeros, join}
 use Rattle.fields.specs.Checks.{AllClear}
 use Rattle.fields.specs.Text.{cut}
 use Rattle.fields.specs.declared.Verdict.the-variants.{Passes, Fails}
 use Rattle.points.specs.declared.Point.{Point}
 use Rattle.points.specs.declared.Decoded.the-variants.{Fields}
+use Rattle.points.specs.Raw.{classByte, classOf, withheldOf}
 use Rattle.points.specs.Points.{pointOf, decodeChecks, decoded}
 use Rattle.points.specs.Encoding.{encodeChecks, encoded, blank}
 use Rattle.scaling.specs.Scaling.{coordinateOf, scalingOf}
@@ -28,7 +30,7 @@ use Rattle.reader.specs.declared.cursor.Step.the-variants.{Refused}
 use Rattle.reader.specs.OnePoint.{pointChecks}
 use Rattle.sheet.specs.Sheet.{kind, lowest, highest, userID, recordID, lines}
 use Rattle.sheet.specs.Keeping.{keepsClass, keepsPoint, keepsRecord}
-use Rattle.lasfile.specs.HeaderFields.{pointCount}
+use Rattle.lasfile.specs.HeaderFields.{format, pointCount}
 use Rattle.publicpart.specs.Public.{contents, publicOf}
 use Rattle.publicpart.specs.Release.{release}
 use Rattle.editor.specs.Mend.{mend}
@@ -301,6 +303,48 @@ pub record TextsMet : Type 0 where
   pub inner-apart : Same (release sheet3 (named9 (AB ++ zeros 30)) (filled 7))
       (release sheet3 (named9 (A-B ++ zeros 29)) (filled 9))
       → ⊥
+
+-- ---- classes and flags
+
+-- a sheet that keeps the classes from one to another
+abbrev pub from : ℕ → ℕ → Bytes
+from low high = 0x4B ∷ 0x53 ∷ 0x01 ∷ low ∷ high ∷ []
+
+-- sample P9's file, its second point with another classification byte
+abbrev pub second9 : ℕ → Bytes
+second9 byte = take 334 file9 ++ (byte ∷ drop 335 file9)
+
+-- and that file with a number of points of 1, so that it has no second point
+abbrev pub first9 : Bytes
+first9 = take 107 file9 ++ (0x01 ∷ drop 108 file9)
+
+pub record ClassesMet : Type 0 where
+  -- 66 is class 2 and the flag of a key point
+  pub joined : classByte 0 (point7 66) ≡ 2 + 32 * 0 + 64 * 1 + 128 * 0
+  -- the class of 255 is at most 31
+  pub to-31 : classOf 0 (point7 255) ≤ 31
+  -- a line for class 2 keeps a key point of class 2
+  pub key-point-kept : keepsPoint sheet3 0 (point7 66) ≡ true
+  -- and so a synthetic one
+  pub synthetic-kept : keepsPoint sheet3 0 (point7 34) ≡ keepsPoint sheet3 0 (point7 66)
+  -- but no withheld one
+  pub withheld-stays : keepsPoint sheet3 0 (point7 130) ≡ false
+  -- nor does a line for 0 to 255
+  pub withheld-stays-always : keepsPoint (from 0 255) 0 (point7 130) ≡ false
+  -- a line for 66 keeps no point
+  pub above-31 : (f : ℕ) (p : Bytes) → keepsPoint (from 66 66) f p ≡ keepsPoint [] f p
+  -- and one for 20 to 200 those of classes 20 to 31
+  pub across-31 : (f : ℕ) (p : Bytes) → keepsPoint (from 20 200) f p ≡ keepsPoint (from 20 31) f p
+  -- no point of sample P9's release is withheld
+  pub none-goes-out : OfOutput9 (λ out. All (λ p. withheldOf (format out) p ≡ false) (contents out .points))
+  -- a file with a withheld point of class 2 and one without it are two files
+  pub files-differ : second9 130 ≡ first9 → ⊥
+  -- with one public part under every sheet
+  pub same-public-part : (sheet : Bytes) → publicOf sheet (second9 130) ≡ publicOf sheet first9
+  -- and so with the same release
+  pub withheld-alike : Same (release sheet3 (second9 130) (filled 7)) (release sheet3 first9 (filled 9))
+  -- a key point in its place makes another release
+  pub key-point-apart : Same (release sheet3 (second9 66) (filled 7)) (release sheet3 first9 (filled 9)) → ⊥
 
 -- ---- sheets, files, points, coordinates
 

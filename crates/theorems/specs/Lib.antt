@@ -8,6 +8,7 @@ pub mod ReleasedFile
 pub mod Coordinates
 pub mod BoundsOfKept
 pub mod Sheets
+pub mod Classes
 pub mod Files
 pub mod Mending
 pub mod Visits
