@@ -43,7 +43,7 @@ use sheet::check_sheet;
 pub extern "C" fn las_level() -> u64
     ensures { λ r. ⌜ r ≡ lasLevel ⌝ }
 {
-    2
+    3
 }
 
 #[no_mangle]
