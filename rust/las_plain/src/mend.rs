@@ -6,7 +6,7 @@ use crate::refusal::Refusal;
 use crate::tally::Tally;
 
 /// Sets the number of points to the smaller of the stated number and the whole records that fit, and the five bins and
-/// six bounds to those of these points. No other byte changes.
+/// six bounds to those of these points, withheld ones too. No other byte changes.
 ///
 /// The marks say which of these twelve fields have other bytes now, in the order of the header. Refusals are 1 to 8 and
 /// 10, and leave the file as it was; 9 is never given.
@@ -42,6 +42,7 @@ mod tests {
     use super::*;
     use crate::bytes::{f64_at, put, u32_at};
     use crate::file::check_file;
+    use crate::point::CLASS_PLACE;
     use crate::sample::p9_file;
 
     const COUNT: usize = 107;
@@ -101,6 +102,14 @@ mod tests {
         assert_eq!(marked(&mut file), [1]);
         assert_eq!((u32_at(&file, COUNT), u32_at(&file, BINS)), (1, 1));
         assert_eq!(bounds(&file), bounds(&true_file()));
+    }
+
+    #[test]
+    fn withheld_points_are_counted_as_the_others() {
+        let mut file = true_file();
+        file[291 + CLASS_PLACE] |= 0x80;
+        file[319 + CLASS_PLACE] |= 0x80;
+        assert_eq!(mend(&mut file), Ok([false; 12]));
     }
 
     #[test]

@@ -6,8 +6,10 @@ use crate::refusal::Refusal;
 
 /// The place of the byte with return number, number of returns and two flags.
 pub const RETURNS_PLACE: usize = 14;
-/// The place of the classification byte.
+/// The place of the classification byte, which has the class and three flags.
 pub const CLASS_PLACE: usize = 15;
+/// The highest class, and the bits of the classification byte that hold it.
+const MOST_CLASS: u8 = 0b1_1111;
 
 /// The fields of a point. Those that a format lacks are 0.
 #[derive(Debug, Clone, Copy, PartialEq, Eq, Default)]
@@ -20,7 +22,7 @@ pub struct Point {
     pub number_of_returns: u8,
     pub scan_direction: bool,
     pub edge_of_flight_line: bool,
-    /// The whole classification byte.
+    /// The class, 0 to 31: the classification byte without its flags.
     pub classification: u8,
     pub scan_angle_rank: i8,
     pub user_data: u8,
@@ -29,12 +31,19 @@ pub struct Point {
     pub gps_time: u64,
     /// Red, green, blue.
     pub colour: [u16; 3],
+    /// Whether the point was made in another way than by lidar.
+    pub synthetic: bool,
+    /// Whether the point is a model key point.
+    pub key_point: bool,
+    /// Whether the point counts as deleted; no release keeps it.
+    pub withheld: bool,
 }
 
 impl Point {
     /// Reads the fields of a record that is at least as long as its format.
     pub(crate) fn read(format: PointFormat, record: &[u8]) -> Self {
         let returns = record[RETURNS_PLACE];
+        let class_byte = record[CLASS_PLACE];
         Self {
             x: i32_at(record, 0),
             y: i32_at(record, 4),
@@ -44,7 +53,7 @@ impl Point {
             number_of_returns: returns >> 3 & 7,
             scan_direction: returns >> 6 & 1 == 1,
             edge_of_flight_line: returns >> 7 == 1,
-            classification: record[CLASS_PLACE],
+            classification: class_of(class_byte),
             scan_angle_rank: i8::from_le_bytes([record[16]]),
             user_data: record[17],
             point_source_id: u16_at(record, 18),
@@ -52,17 +61,20 @@ impl Point {
             colour: format.colour_place().map_or([0; 3], |at| {
                 std::array::from_fn(|channel| u16_at(record, at + 2 * channel))
             }),
+            synthetic: class_byte >> 5 & 1 == 1,
+            key_point: class_byte >> 6 & 1 == 1,
+            withheld: is_withheld(class_byte),
         }
     }
 
-    /// Writes the fields over a record; bytes beyond the format's size stay.
+    /// Writes the fields, none of them too large, over a record; bytes beyond the format's size stay.
     pub(crate) fn write(&self, format: PointFormat, record: &mut [u8]) {
         put(record, 0, &self.x.to_le_bytes());
         put(record, 4, &self.y.to_le_bytes());
         put(record, 8, &self.z.to_le_bytes());
         put(record, 12, &self.intensity.to_le_bytes());
         record[RETURNS_PLACE] = self.returns_byte();
-        record[CLASS_PLACE] = self.classification;
+        record[CLASS_PLACE] = self.class_byte();
         put(record, 16, &self.scan_angle_rank.to_le_bytes());
         record[17] = self.user_data;
         put(record, 18, &self.point_source_id.to_le_bytes());
@@ -82,6 +94,30 @@ impl Point {
             | u8::from(self.scan_direction) << 6
             | u8::from(self.edge_of_flight_line) << 7
     }
+
+    fn class_byte(&self) -> u8 {
+        self.classification
+            | u8::from(self.synthetic) << 5
+            | u8::from(self.key_point) << 6
+            | u8::from(self.withheld) << 7
+    }
+
+    /// Whether a field exceeds its bits, so that it would run into the fields that share its byte.
+    fn has_too_large_field(&self) -> bool {
+        self.return_number > 7 || self.number_of_returns > 7 || self.classification > MOST_CLASS
+    }
+}
+
+/// The class in a classification byte.
+#[inline]
+pub fn class_of(class_byte: u8) -> u8 {
+    class_byte & MOST_CLASS
+}
+
+/// The withheld flag in a classification byte.
+#[inline]
+pub fn is_withheld(class_byte: u8) -> bool {
+    class_byte >> 7 == 1
 }
 
 /// Reads one point's fields, or 12 if format, record length and bytes do not fit.
@@ -90,8 +126,8 @@ pub fn decode(format: u8, record_length: u16, bytes: &[u8]) -> Result<Point, Ref
     Ok(Point::read(format, bytes))
 }
 
-/// Writes one point's fields, or 12 as for [`decode`], then 13 if a return
-/// number or number of returns exceeds 7.
+/// Writes one point's fields, or 12 as for [`decode`], then 13 if the return number or number of returns is above 7 or
+/// the class above 31.
 pub fn encode(
     format: u8,
     record_length: u16,
@@ -99,7 +135,7 @@ pub fn encode(
     room: &mut [u8],
 ) -> Result<(), Refusal> {
     let format = fitting_format(format, record_length, room.len())?;
-    if point.return_number > 7 || point.number_of_returns > 7 {
+    if point.has_too_large_field() {
         return Err(Refusal::FieldTooLarge);
     }
     point.write(format, room);
@@ -163,6 +199,36 @@ mod tests {
     }
 
     #[test]
+    fn every_classification_byte_has_its_four_parts_and_comes_back() {
+        let mut bytes = [0xAA; 34];
+        for byte in 0..=255 {
+            bytes[CLASS_PLACE] = byte;
+            for (format, size) in [(0, 20), (1, 28), (2, 26), (3, 34)] {
+                let record = &bytes[..usize::from(size)];
+                let point = decode(format, size, record).unwrap();
+                assert_eq!(point.classification, byte % 32);
+                assert_eq!(point.synthetic, byte / 32 % 2 == 1);
+                assert_eq!(point.key_point, byte / 64 % 2 == 1);
+                assert_eq!(point.withheld, byte / 128 == 1);
+                let mut room = vec![0x55; record.len()];
+                assert_eq!(encode(format, size, &point, &mut room), Ok(()));
+                assert_eq!(room, record);
+            }
+        }
+    }
+
+    #[test]
+    fn a_key_point_on_the_ground_has_byte_66() {
+        let mut bytes = P7;
+        bytes[CLASS_PLACE] = 66;
+        let key_point = Point {
+            key_point: true,
+            ..p7_point()
+        };
+        assert_eq!(decode(0, 20, &bytes), Ok(key_point));
+    }
+
+    #[test]
     fn lengths_and_formats_that_do_not_fit_give_12() {
         assert_eq!(decode(0, 20, &[0; 19]), Err(Refusal::WrongPointLength));
         assert_eq!(decode(0, 20, &[0; 21]), Err(Refusal::WrongPointLength));
@@ -171,7 +237,7 @@ mod tests {
     }
 
     #[test]
-    fn too_large_return_numbers_give_13_and_change_nothing() {
+    fn too_large_fields_give_13_and_change_nothing() {
         let mut room = [0xAA; 20];
         for point in [
             Point {
@@ -182,20 +248,25 @@ mod tests {
                 number_of_returns: 8,
                 ..p7_point()
             },
+            Point {
+                classification: 32,
+                ..p7_point()
+            },
+            Point {
+                classification: 255,
+                ..p7_point()
+            },
         ] {
             assert_eq!(
                 encode(0, 20, &point, &mut room),
                 Err(Refusal::FieldTooLarge)
             );
             assert_eq!(room, [0xAA; 20]);
+            assert_eq!(
+                encode(0, 21, &point, &mut room),
+                Err(Refusal::WrongPointLength)
+            );
+            assert_eq!(room, [0xAA; 20]);
         }
-        let both = Point {
-            return_number: 8,
-            ..p7_point()
-        };
-        assert_eq!(
-            encode(0, 21, &both, &mut room),
-            Err(Refusal::WrongPointLength)
-        );
     }
 }

@@ -2,7 +2,7 @@
 
 use crate::file::LasFile;
 use crate::header::{HEADER_SIZE, Header};
-use crate::point::CLASS_PLACE;
+use crate::point::{CLASS_PLACE, class_of, is_withheld};
 use crate::refusal::Refusal;
 use crate::sheet::Sheet;
 use crate::tally::Tally;
@@ -45,7 +45,14 @@ pub fn release(file: &[u8], sheet: &[u8], out: &mut [u8]) -> Result<Released, Re
 /// The bytes of each kept point in order.
 fn kept_points<'a>(file: &LasFile<'a>, sheet: &Sheet<'_>) -> impl Iterator<Item = &'a [u8]> {
     file.points()
-        .filter(|record| sheet.keeps_class(record[CLASS_PLACE]))
+        .filter(|record| keeps_point(sheet, record[CLASS_PLACE]))
+}
+
+/// Whether a point with this classification byte is kept; a withheld one never is, whatever the sheet says.
+#[inline]
+fn keeps_point(sheet: &Sheet<'_>, class_byte: u8) -> bool {
+    // `&` and not `&&`: one branch per point instead of two.
+    !is_withheld(class_byte) & sheet.keeps_class(class_of(class_byte))
 }
 
 /// What a sheet keeps of a file.
@@ -120,7 +127,20 @@ impl<'f, 's> Kept<'f, 's> {
 #[cfg(test)]
 mod tests {
     use super::*;
-    use crate::sample::{P3_SHEET, p9_file};
+    use crate::sample::{P3_SHEET, every_class_byte_file, p9_file};
+
+    /// The classification bytes of the points that a sheet for these classes keeps, out of all 256.
+    fn kept_class_bytes(lowest: u8, highest: u8) -> Vec<u8> {
+        let file = every_class_byte_file();
+        let mut out = vec![0xAA; file.len()];
+        let answer = release(&file, &[0x4B, 0x53, 1, lowest, highest], &mut out).unwrap();
+        let released = LasFile::open(&out[..answer.length as usize]).unwrap();
+        assert_eq!(released.points().len() as u64, answer.points);
+        released
+            .points()
+            .map(|record| record[CLASS_PLACE])
+            .collect()
+    }
 
     #[test]
     fn p9_one_point_of_class_2_makes_255_bytes() {
@@ -162,6 +182,37 @@ mod tests {
             })
         );
         assert_eq!(out[179..], [0; 48]);
+    }
+
+    #[test]
+    fn a_class_is_kept_with_every_flag_but_withheld() {
+        assert_eq!(kept_class_bytes(2, 2), [2, 34, 66, 98]);
+        assert_eq!(kept_class_bytes(31, 31), [31, 63, 95, 127]);
+    }
+
+    #[test]
+    fn ranges_match_no_point_above_31() {
+        assert_eq!(kept_class_bytes(66, 66), []);
+        assert_eq!(kept_class_bytes(32, 255), []);
+        let from_20_to_31: Vec<u8> = (0..=127).filter(|byte| byte % 32 >= 20).collect();
+        assert_eq!(kept_class_bytes(20, 200), from_20_to_31);
+    }
+
+    #[test]
+    fn a_sheet_for_every_class_keeps_all_points_but_the_withheld() {
+        let not_withheld: Vec<u8> = (0..=127).collect();
+        assert_eq!(kept_class_bytes(0, 255), not_withheld);
+        assert_eq!(kept_class_bytes(0, 31), not_withheld);
+    }
+
+    #[test]
+    fn a_withheld_point_is_in_no_count_and_no_bound() {
+        let mut file = p9_file();
+        file[319 + CLASS_PLACE] |= 0x80;
+        let (mut withheld, mut empty) = ([0xAA; 300], [0xBB; 300]);
+        let answer = release(&file, &P3_SHEET, &mut withheld);
+        assert_eq!(answer, release(&file, &[], &mut empty));
+        assert_eq!(withheld, empty);
     }
 
     #[test]

@@ -1,8 +1,9 @@
 //! The specification's sample file and sheet, for the tests.
 
+use crate::bytes::put;
 use crate::format::PointFormat;
 use crate::header::{Header, ProjectId};
-use crate::point::Point;
+use crate::point::{CLASS_PLACE, Point};
 use crate::scaling::{Bounds, Scaling};
 use crate::vlr::Vlr;
 
@@ -17,6 +18,19 @@ pub fn p9_file() -> Vec<u8> {
     record().write(&mut file[227..291]);
     point(1).write(PointFormat::F1, &mut file[291..319]);
     point(2).write(PointFormat::F1, &mut file[319..347]);
+    file
+}
+
+/// The file of sample P9 with 256 points, one for each classification byte in rising order.
+pub fn every_class_byte_file() -> Vec<u8> {
+    let mut file = p9_file();
+    let mut record = file.split_off(319);
+    file.truncate(291);
+    put(&mut file, 107, &256u32.to_le_bytes());
+    for byte in 0..=255 {
+        record[CLASS_PLACE] = byte;
+        file.extend_from_slice(&record);
+    }
     file
 }
 

@@ -1,4 +1,6 @@
 //! The keep sheet: which classes and which records may leave.
+//!
+//! A class is one number without flags here. Ranges may reach up to 255, though points have classes up to 31 only.
 
 use crate::bytes::{cut, u16_at};
 use crate::refusal::Refusal;
@@ -33,7 +35,7 @@ impl<'a> Sheet<'a> {
         Ok(sheet)
     }
 
-    /// Whether points of this class are kept.
+    /// Whether points of this class are kept, unless they are withheld.
     #[inline]
     pub fn keeps_class(&self, class: u8) -> bool {
         self.classes[usize::from(class)]
@@ -50,7 +52,7 @@ pub fn check_sheet(sheet: &[u8]) -> Result<(), Refusal> {
     Sheet::read(sheet).map(drop)
 }
 
-/// Whether a sheet keeps a class.
+/// Whether a sheet keeps a class, which may be any number from 0 to 255 and has no flags in it.
 pub fn class_kept(sheet: &[u8], class: u8) -> Result<bool, Refusal> {
     Sheet::read(sheet).map(|sheet| sheet.keeps_class(class))
 }
@@ -63,7 +65,7 @@ pub fn record_kept(sheet: &[u8], user_id: &[u8], record_id: u16) -> Result<bool,
 /// What one line keeps.
 #[derive(Debug, Clone, Copy, PartialEq, Eq)]
 enum Line<'a> {
-    /// Kind 1: points of these classes.
+    /// Kind 1: points of these classes, unless they are withheld.
     Classes { lowest: u8, highest: u8 },
     /// Kind 2: records with this cut user ID and record ID.
     Record { user_id: &'a [u8], record_id: u16 },
@@ -149,6 +151,15 @@ mod tests {
             .filter(|&class| sheet.keeps_class(class))
             .collect();
         assert_eq!(kept, [2]);
+    }
+
+    #[test]
+    fn a_class_asked_for_is_one_number_without_flags() {
+        let sheet = [0x4B, 0x53, 1, 20, 200];
+        for class in 0..=255 {
+            let held = (20..=200).contains(&class);
+            assert_eq!(class_kept(&sheet, class), Ok(held), "{class}");
+        }
     }
 
     #[test]
