@@ -45,7 +45,8 @@
  *   11  point index is not below the number of points
  *   12  bytes or room differ from the record length, that length is below the
  *       format's size, or the format is above 3
- *   13  a return number or number of returns above 7 can't be encoded
+ *   13  a return number or number of returns above 7, or a class above 31, can't
+ *       be encoded
  *   18  step: index not below the number of records, position below the header
  *       size, or a record there would run past the point offset
  *       The keep sheet, line by line:
@@ -113,13 +114,16 @@ typedef struct {
     uint16_t red;
     uint16_t green;
     uint16_t blue;
-    uint8_t return_number; /* 0 to 7 */
-    uint8_t returns;       /* number of returns, 0 to 7 */
-    uint8_t class_byte;    /* the whole classification byte */
+    uint8_t return_number;  /* 0 to 7 */
+    uint8_t returns;        /* number of returns, 0 to 7 */
+    uint8_t classification; /* the class, 0 to 31: bits 0 to 4 of the classification byte */
     uint8_t user_data;
     uint8_t scan_direction; /* flag */
     uint8_t edge;           /* flag */
     int8_t scan_angle;
+    uint8_t synthetic; /* flag: bit 5 of the classification byte */
+    uint8_t key_point; /* flag: bit 6 */
+    uint8_t withheld;  /* flag: bit 7; a withheld point is never released */
 } las_point;
 
 /* The value of one GeoKey. */
@@ -173,7 +177,7 @@ typedef struct {
 /* The functions. Any pointer may be null where the length after it is 0. */
 
 /* The number of the last change request that is in: 0 for the base, 1 with las_mend, 2 where a text's cut has no spaces
- * at its end. */
+ * at its end, 3 where a class has no flags in it and withheld points are never released. */
 uint64_t las_level(void);
 
 /* 0 if the file passes, otherwise 1 to 10. */
@@ -206,8 +210,9 @@ uint64_t las_encode(uint8_t format, uint16_t record_length, las_point point, uin
  * nearest with ties to even. Takes any bits, and gives no number. */
 uint64_t las_coordinate(int32_t stored, uint64_t scale, uint64_t offset);
 
-/* Whether the sheet keeps points of that class. Numbers: 20 to 24. */
-las_kept las_class_kept(const uint8_t *sheet, uint64_t sheet_length, uint8_t class_byte);
+/* Whether a line of the sheet contains that class, from 0 to 255. It is a class by itself, with no flags in it: the
+ * points of formats 0 to 3 have classes from 0 to 31, so that a line above 31 keeps none of them. Numbers: 20 to 24. */
+las_kept las_class_kept(const uint8_t *sheet, uint64_t sheet_length, uint8_t classification);
 
 /* Whether the sheet keeps records of that user ID and record ID. The user ID has any number of bytes, and is cut as any
  * text; so are the sheet's. Numbers: 20 to 24. */
@@ -218,16 +223,18 @@ las_kept las_record_kept(const uint8_t *sheet, uint64_t sheet_length, const uint
 las_geokey las_geokey_find(const uint8_t *file, uint64_t file_length, uint16_t key);
 
 /* Writes what the sheet keeps of the file to `out`, which overlaps no other argument, as a file of its own, and
- * zeros behind it. Of a text field it has the cut, and zeros behind that. An output as long as the file is never too
- * short; an empty one asks for the needed length, by 30. Numbers: 1 to 10, 20 to 24, 30. */
+ * zeros behind it. A line for class 2 keeps synthetic points and key points of class 2 too (a ground key point has the
+ * classification byte 66); withheld points never go out, whatever the sheet says. Of a text field it has the cut, and
+ * zeros behind that. An output as long as the file is never too short; an empty one asks for the needed length, by 30.
+ * Numbers: 1 to 10, 20 to 24, 30. */
 las_released las_release(const uint8_t *file, uint64_t file_length, const uint8_t *sheet, uint64_t sheet_length,
                          uint8_t *out, uint64_t out_length);
 
 /* Mends what the header states of the points, in the file itself, and says which of the twelve fields changed. The
  * number of points becomes the smaller of the stated number and the whole records that fit after the point offset.
- * Points by return and bounds become those of these points; without points the bounds are +0.0. No other byte
- * changes. The mended file passes, and mending it again changes nothing. Where the file passed before, its release
- * under every sheet stays the same. Numbers: 1 to 8, 10. */
+ * Points by return and bounds become those of these points, withheld ones too; without points the bounds are +0.0. No
+ * other byte changes. The mended file passes, and mending it again changes nothing. Where the file passed before, its
+ * release under every sheet stays the same. Numbers: 1 to 8, 10. */
 las_mended las_mend(uint8_t *file, uint64_t file_length);
 
 #ifdef __cplusplus

@@ -40,11 +40,14 @@ static void structs(void)
     AT(las_point, blue, 44);
     AT(las_point, return_number, 46);
     AT(las_point, returns, 47);
-    AT(las_point, class_byte, 48);
+    AT(las_point, classification, 48);
     AT(las_point, user_data, 49);
     AT(las_point, scan_direction, 50);
     AT(las_point, edge, 51);
     AT(las_point, scan_angle, 52);
+    AT(las_point, synthetic, 53);
+    AT(las_point, key_point, 54);
+    AT(las_point, withheld, 55);
 
     HOLDS(sizeof(las_geokey) == 32);
     AT(las_geokey, number, 0);
@@ -107,11 +110,10 @@ static void nothing(void)
     HOLDS(refusal(&mended, sizeof mended, 1));
     HOLDS(class_kept.number == 0 && class_kept.kept == 0);
     HOLDS(record_kept.number == 0 && record_kept.kept == 0);
-    /* Up to scan_angle: what stands in the bytes behind the last field is open. */
     point = las_point_at(NULL, 0, 0);
-    HOLDS(refusal(&point, offsetof(las_point, scan_angle) + 1, 1));
+    HOLDS(refusal(&point, sizeof point, 1));
     point = las_decode(0, 0, NULL, 0);
-    HOLDS(refusal(&point, offsetof(las_point, scan_angle) + 1, 12));
+    HOLDS(refusal(&point, sizeof point, 12));
     HOLDS(las_encode(0, 0, point, NULL, 0) == 12);
 }
 
@@ -128,7 +130,8 @@ static void points(void)
     HOLDS(point.x == -2 && point.y == 0x04030201 && point.z == INT32_MIN);
     HOLDS(point.intensity == 0x1211 && point.return_number == 3 && point.returns == 5);
     HOLDS(point.scan_direction == 1 && point.edge == 0);
-    HOLDS(point.class_byte == 0xC8 && point.scan_angle == -123 && point.user_data == 0x14);
+    HOLDS(point.classification == 8 && point.synthetic == 0 && point.key_point == 1 && point.withheld == 1);
+    HOLDS(point.scan_angle == -123 && point.user_data == 0x14);
     HOLDS(point.source_id == 0x1615 && point.gps_time == 0x2827262524232221);
     HOLDS(point.red == 0x3231 && point.green == 0x3433 && point.blue == 0x3635);
 
@@ -164,7 +167,7 @@ static void others(void)
 
     HOLDS(las_coordinate(-1, 0x3FE0000000000000, 0x4024000000000000) == 0x4023000000000000);
     HOLDS(las_coordinate(1, 0xFFF0000000000001, 0) == 0x7FF8000000000000);
-    HOLDS(las_level() == 2);
+    HOLDS(las_level() == 3);
 }
 
 int main(void)

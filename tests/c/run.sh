@@ -1,5 +1,5 @@
 #!/usr/bin/env bash
-# Tries the header and the static library as a C caller would: the header as C and as C++, and four programs over the
+# Tries the header and the static library as a C caller would: the header as C and as C++, and five programs over the
 # library.
 # Usage: tests/c/run.sh LIBDIR, the folder with libcapi.a; its last line is 'N passed, M failed'.
 set -u
@@ -61,6 +61,7 @@ holds "release.c" cc -std=c99 "${strict[@]}" -I"$include" "$here/release.c" "$li
 holds "interface.c" cc -std=c99 "${strict[@]}" -I"$include" "$here/interface.c" "$library" -o "$scratch/interface"
 holds "mend.c" cc -std=c99 "${strict[@]}" -I"$include" "$here/mend.c" "$library" -o "$scratch/mend"
 holds "texts.c" cc -std=c99 "${strict[@]}" -I"$include" "$here/texts.c" "$library" -o "$scratch/texts"
+holds "flags.c" cc -std=c99 "${strict[@]}" -I"$include" "$here/flags.c" "$library" -o "$scratch/flags"
 # the lines of the README, with what they take for granted around them: a card's scan and its sheet
 {
     printf '%s\n' '#include "korbishaf.h"' '#include <stdio.h>' '#include <stdlib.h>' 'int main(void) {' \
@@ -87,6 +88,7 @@ fi
 add "$scratch/interface"
 add "$scratch/mend"
 add "$scratch/texts"
+add "$scratch/flags"
 
 echo "$passed passed, $failed failed"
 [ "$failed" -eq 0 ]
