@@ -26,7 +26,7 @@ pub fn check_sheet(sheet: &[u8]) -> Result<(), Error> {
     passes(unsafe { sys::las_check_sheet(sheet.as_ptr(), sheet.len() as u64) })
 }
 
-/// Whether a sheet keeps the points of a class.
+/// Whether a line of a sheet contains a class, from 0 to 255. It has no [flags](crate#classes-and-flags) in it.
 ///
 /// # Errors
 ///

@@ -122,7 +122,7 @@ pub fn refusal_words(number: u64) -> Option<&'static str> {
             "point bytes or room differ from the record length, that length is below the format's size, \
                or the format is above 3"
         }
-        13 => "a return number or number of returns is too large to encode",
+        13 => "a return number, a number of returns or a class is too large to encode",
         18 => {
             "index is not below the number of records, position is below the header size, \
                or a record there would run past the point offset"

@@ -32,9 +32,16 @@
 //! # Ok::<(), korbishaf::TextError>(())
 //! ```
 //!
+//! # Classes and flags
+//!
+//! In the point formats 0 to 3 the classification byte of a point holds its class, 0 to 31, in the lower five bits, and
+//! three flags above these: synthetic, key point and withheld. A [`Point`] has the four apart. A sheet names classes
+//! alone: a line for class 2 keeps synthetic points and key points of that class too, and a line above 31 keeps none.
+//! Withheld points are never released, whatever the sheet says.
+//!
 //! # Example
 //!
-//! A file of two points, made here in memory, and a sheet that keeps one of them:
+//! A file of three points, made here in memory, and a sheet that keeps one of them:
 //!
 //! ```
 //! let mut file = vec![0; 227];
@@ -44,12 +51,12 @@
 //! file[96..100].copy_from_slice(&227u32.to_le_bytes()); // offset to points
 //! file[104] = 0; // point format
 //! file[105..107].copy_from_slice(&20u16.to_le_bytes()); // record length
-//! file[107..111].copy_from_slice(&2u32.to_le_bytes()); // number of points
+//! file[107..111].copy_from_slice(&3u32.to_le_bytes()); // number of points
 //! for scale in [131, 139, 147] {
 //!     file[scale..scale + 8].copy_from_slice(&0.5f64.to_le_bytes());
 //! }
-//! for (x, class) in [(-3, 2), (40, 6)] {
-//!     let point = korbishaf::Point { x, class, ..Default::default() };
+//! for (x, classification, withheld) in [(-3, 2, false), (40, 6, false), (7, 2, true)] {
+//!     let point = korbishaf::Point { x, classification, withheld, ..Default::default() };
 //!     let mut record = [0; 20];
 //!     korbishaf::encode(0, 20, &point, &mut record)?;
 //!     file.extend(record);
@@ -63,7 +70,7 @@
 //! assert_eq!(header.point_count, 1);
 //! assert_eq!(header.max[0], -1.5);
 //! let kept: Vec<_> = korbishaf::points(&sample)?.map(|found| found.point).collect();
-//! assert_eq!(kept, [korbishaf::Point { x: -3, class: 2, ..Default::default() }]);
+//! assert_eq!(kept, [korbishaf::Point { x: -3, classification: 2, ..Default::default() }]);
 //! assert_eq!(header.coordinates(&kept[0]), [-1.5, 0.0, 0.0]);
 //! # Ok::<(), Box<dyn std::error::Error>>(())
 //! ```
@@ -97,7 +104,7 @@ pub use sheet::{
 use text_field::cut;
 
 /// The number of the last change request that is in the library: 0 for the base, 1 with [`mend`], 2 where texts are cut
-/// before the spaces at their end.
+/// before the spaces at their end, 3 where a class has no [flags](crate#classes-and-flags) in it.
 #[must_use]
 pub fn level() -> u64 {
     sys::las_level()

@@ -24,8 +24,8 @@ pub struct Point {
     pub scan_direction: bool,
     /// The flag for the edge of a flight line.
     pub edge: bool,
-    /// The class: the whole classification byte.
-    pub class: u8,
+    /// The class, 0 to 31: the classification byte [without its flags](crate#classes-and-flags).
+    pub classification: u8,
     /// The scan angle rank.
     pub scan_angle: i8,
     /// The user data.
@@ -41,6 +41,12 @@ pub struct Point {
     pub green: u16,
     /// Blue, which formats 2 and 3 have.
     pub blue: u16,
+    /// The flag of a point that was made in another way than by the laser.
+    pub synthetic: bool,
+    /// The flag of a model key point.
+    pub key_point: bool,
+    /// The flag of a point that counts as deleted. Such a point is never released.
+    pub withheld: bool,
 }
 
 impl Point {
@@ -61,7 +67,7 @@ impl Point {
             returns: point.returns,
             scan_direction: point.scan_direction != 0,
             edge: point.edge != 0,
-            class: point.class_byte,
+            classification: point.classification,
             scan_angle: point.scan_angle,
             user_data: point.user_data,
             source_id: point.source_id,
@@ -69,6 +75,9 @@ impl Point {
             red: point.red,
             green: point.green,
             blue: point.blue,
+            synthetic: point.synthetic != 0,
+            key_point: point.key_point != 0,
+            withheld: point.withheld != 0,
         }
     }
 
@@ -88,11 +97,14 @@ impl Point {
             blue: self.blue,
             return_number: self.return_number,
             returns: self.returns,
-            class_byte: self.class,
+            classification: self.classification,
             user_data: self.user_data,
             scan_direction: u8::from(self.scan_direction),
             edge: u8::from(self.edge),
             scan_angle: self.scan_angle,
+            synthetic: u8::from(self.synthetic),
+            key_point: u8::from(self.key_point),
+            withheld: u8::from(self.withheld),
         }
     }
 }
@@ -187,7 +199,7 @@ impl FusedIterator for Points<'_> {}
 /// let point = korbishaf::decode(0, 20, &record)?;
 /// assert_eq!((point.x, point.y, point.z), (-1, 100, 0));
 /// assert_eq!((point.return_number, point.returns), (1, 2));
-/// assert_eq!((point.class, point.scan_angle), (2, -3));
+/// assert_eq!((point.classification, point.scan_angle), (2, -3));
 /// # Ok::<(), korbishaf::Error>(())
 /// ```
 pub fn decode(format: u8, record_length: u16, bytes: &[u8]) -> Result<Point, Error> {
@@ -203,16 +215,24 @@ pub fn decode(format: u8, record_length: u16, bytes: &[u8]) -> Result<Point, Err
 ///
 /// # Errors
 ///
-/// 12 as for [`decode`], by the room's length, then 13 where the return number or the number of returns is above 7. The
-/// room is then unchanged.
+/// 12 as for [`decode`], by the room's length, then 13 where the return number or the number of returns is above 7 or
+/// the class above 31. The room is then unchanged.
 ///
 /// ```
-/// let point = korbishaf::Point { x: -1, return_number: 1, returns: 2, ..Default::default() };
+/// use korbishaf::{Point, encode};
+///
+/// let point = Point { x: -1, return_number: 1, returns: 2, classification: 2, ..Point::default() };
 /// let mut room = [0xEE; 22];
-/// korbishaf::encode(0, 22, &point, &mut room)?;
+/// encode(0, 22, &point, &mut room)?;
 /// assert_eq!(room[..4], [0xFF; 4]);
-/// assert_eq!(room[14], 0x11);
+/// assert_eq!(room[14..16], [0x11, 2]);
 /// assert_eq!(room[20..], [0xEE; 2]);
+///
+/// // a key point of that class
+/// encode(0, 22, &Point { key_point: true, ..point }, &mut room)?;
+/// assert_eq!(room[15], 66);
+/// let refused = encode(0, 22, &Point { classification: 66, ..point }, &mut room);
+/// assert_eq!(refused.unwrap_err().number(), 13);
 /// # Ok::<(), korbishaf::Error>(())
 /// ```
 pub fn encode(format: u8, record_length: u16, point: &Point, room: &mut [u8]) -> Result<(), Error> {

@@ -15,7 +15,8 @@ pub struct Released {
     pub records: u64,
 }
 
-/// Writes what a sheet keeps of a file to the output, as a file of its own with zeros behind it.
+/// Writes what a sheet keeps of a file to the output, as a file of its own with zeros behind it. Withheld points
+/// [never go out](crate#classes-and-flags).
 ///
 /// An output as long as the file is never too short.
 ///

@@ -92,7 +92,8 @@ impl Sheet {
     /// - `class 2`, `class 3-5` or `class ground`: a class, the classes from the lowest to the highest, or a class by
     ///   its name in LAS 1.2, which are `created-never-classified` (0), `unclassified`, `ground`, `low-vegetation`,
     ///   `medium-vegetation`, `high-vegetation`, `building`, `low-point`, `model-key-point`, `water` (9) and `overlap`
-    ///   (12), in any case and with `-` or `_`;
+    ///   (12), in any case and with `-` or `_`. A number may go up to 255, though points have
+    ///   [classes](crate#classes-and-flags) up to 31;
     /// - `record LASF_Projection 34735`: a user ID of at most 16 bytes and a record ID from 0 to 65535. A user ID that
     ///   is empty or has a blank, a quote, a `#`, a backslash, a control or a byte that is not ASCII stands in double
     ///   quotes, in which `\"`, `\\` and `\xNN` (two hexadecimal digits, not `\x00`) stand for a byte. Spaces at its
@@ -171,7 +172,10 @@ impl TryFrom<Vec<u8>> for Sheet {
     }
 }
 
-/// Whether a sheet keeps the points of a class.
+/// Whether a line of a sheet contains a class, from 0 to 255.
+///
+/// The class has no [flags](crate#classes-and-flags) in it: of a [`Point`](crate::Point), ask for its `classification`.
+/// A withheld point is not released even where its class is kept.
 ///
 /// ```
 /// use korbishaf::{Line, Sheet, class_kept};
@@ -179,6 +183,7 @@ impl TryFrom<Vec<u8>> for Sheet {
 /// let sheet = Sheet::from_lines([Line::classes(2, 5)])?;
 /// assert!(class_kept(&sheet, 5));
 /// assert!(!class_kept(&sheet, 6));
+/// assert!(!class_kept(&sheet, 66)); // 66 is a class by itself here, and no key point of class 2
 /// # Ok::<(), korbishaf::Error>(())
 /// ```
 #[must_use]

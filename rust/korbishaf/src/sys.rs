@@ -82,8 +82,8 @@ pub struct las_point {
     pub return_number: u8,
     /// The number of returns, 0 to 7.
     pub returns: u8,
-    /// The whole classification byte.
-    pub class_byte: u8,
+    /// The class, 0 to 31.
+    pub classification: u8,
     /// The user data.
     pub user_data: u8,
     /// The scan direction, a flag.
@@ -92,6 +92,12 @@ pub struct las_point {
     pub edge: u8,
     /// The scan angle rank.
     pub scan_angle: i8,
+    /// That the point is synthetic, a flag.
+    pub synthetic: u8,
+    /// That the point is a key point, a flag.
+    pub key_point: u8,
+    /// That the point is withheld, a flag.
+    pub withheld: u8,
 }
 
 /// The value of one GeoKey.
@@ -183,7 +189,7 @@ pub struct las_header {
 
 unsafe extern "C" {
     /// The number of the last change request that is in: 0 for the base, 1 with `las_mend`, 2 where a text's cut has
-    /// no spaces at its end.
+    /// no spaces at its end, 3 where a class has no flags in it and withheld points are never released.
     pub safe fn las_level() -> u64;
 
     /// 0 if the file passes, otherwise 1 to 10.
@@ -222,8 +228,8 @@ unsafe extern "C" {
     /// The bits of a coordinate, from the bits of its scale and offset.
     pub safe fn las_coordinate(stored: i32, scale: u64, offset: u64) -> u64;
 
-    /// Whether the sheet keeps points of that class. Numbers: 20 to 24.
-    pub fn las_class_kept(sheet: *const u8, sheet_length: u64, class_byte: u8) -> las_kept;
+    /// Whether a line of the sheet contains that class, which has no flags in it. Numbers: 20 to 24.
+    pub fn las_class_kept(sheet: *const u8, sheet_length: u64, classification: u8) -> las_kept;
 
     /// Whether the sheet keeps records of that user ID and record ID. Numbers: 20 to 24.
     pub fn las_record_kept(
@@ -291,8 +297,8 @@ mod tests {
         lie_at!(las_record: number 0, user_place 8, user_length 16, record_id 24, description_place 32,
             description_length 40, payload_place 48, payload_length 56, next_index 64, next_position 72);
         lie_at!(las_point: number 0, place 8, gps_time 16, x 24, y 28, z 32, intensity 36, source_id 38, red 40,
-            green 42, blue 44, return_number 46, returns 47, class_byte 48, user_data 49, scan_direction 50,
-            edge 51, scan_angle 52);
+            green 42, blue 44, return_number 46, returns 47, classification 48, user_data 49,
+            scan_direction 50, edge 51, scan_angle 52, synthetic 53, key_point 54, withheld 55);
         lie_at!(las_geokey: number 0, location 8, value 16, length 24);
         lie_at!(las_kept: number 0, kept 8);
         lie_at!(las_mended: number 0, marks 8);

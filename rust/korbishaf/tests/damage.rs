@@ -141,7 +141,8 @@ fn try_all(file: &[u8], sheet: &[u8]) -> (u64, u64) {
         let out = released.as_ref().unwrap();
         let length = usize::from(header.record_length);
         let kept: Vec<_> = points
-            .filter(|found| bytes::class_kept(sheet, found.point.class).unwrap())
+            .filter(|found| !found.point.withheld)
+            .filter(|found| bytes::class_kept(sheet, found.point.classification).unwrap())
             .map(|found| &file[found.place..][..length])
             .collect();
         let released_points = korbishaf::points(out).unwrap();

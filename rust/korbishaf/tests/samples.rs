@@ -77,14 +77,14 @@ fn p9() -> Vec<u8> {
         y: 100,
         return_number: 1,
         returns: 2,
-        class: 2,
+        classification: 2,
         ..Point::default()
     };
     let other = Point {
         x: 50,
         y: -100,
         z: 9,
-        class: 3,
+        classification: 3,
         ..Point::default()
     };
     let file = file(
@@ -107,7 +107,7 @@ fn number<T: std::fmt::Debug>(answer: Result<T, korbishaf::Error>) -> u64 {
 
 #[test]
 fn level() {
-    assert_eq!(korbishaf::level(), 2);
+    assert_eq!(korbishaf::level(), 3);
 }
 
 #[test]
@@ -213,7 +213,7 @@ fn a_point_p7() {
         intensity: 300,
         return_number: 1,
         returns: 2,
-        class: 2,
+        classification: 2,
         scan_angle: -3,
         source_id: 7,
         ..Point::default()
@@ -235,7 +235,7 @@ fn points_there_and_back() {
         returns: 5,
         scan_direction: true,
         edge: true,
-        class: 255,
+        classification: 31,
         scan_angle: -128,
         user_data: 0xEF,
         source_id: 0xFEDC,
@@ -243,6 +243,9 @@ fn points_there_and_back() {
         red: 0x1122,
         green: 0x3344,
         blue: 0x5566,
+        synthetic: true,
+        key_point: true,
+        withheld: true,
     };
     for (format, size) in [(0, 20u16), (1, 28), (2, 26), (3, 34)] {
         let length = size + 3;
@@ -458,11 +461,19 @@ fn points_of_a_file() {
     assert_eq!(found.len(), 2);
     let found: Vec<PlacedPoint> = found.collect();
     assert_eq!(
-        (found[0].place, found[0].point.x, found[0].point.class),
+        (
+            found[0].place,
+            found[0].point.x,
+            found[0].point.classification
+        ),
         (291, 50, 3)
     );
     assert_eq!(
-        (found[1].place, found[1].point.x, found[1].point.class),
+        (
+            found[1].place,
+            found[1].point.x,
+            found[1].point.classification
+        ),
         (319, -1, 2)
     );
     for (index, point) in found.iter().enumerate() {

@@ -22,7 +22,8 @@ pub(super) const MARK: &[u8; 2] = b"KS";
 #[derive(Clone, Copy, Debug, PartialEq, Eq, Hash)]
 #[non_exhaustive]
 pub enum Line {
-    /// Points whose class is from the lowest to the highest, both included.
+    /// Points whose class is from the lowest to the highest, both included, with any
+    /// [flags](crate#classes-and-flags) but withheld.
     Classes {
         /// The lowest class.
         lowest: u8,
