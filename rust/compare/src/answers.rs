@@ -51,11 +51,14 @@ pub struct Point {
     pub blue: u16,
     pub return_number: u8,
     pub returns: u8,
-    pub class_byte: u8,
+    pub classification: u8,
     pub user_data: u8,
     pub scan_direction: u8,
     pub edge: u8,
     pub scan_angle: i8,
+    pub synthetic: u8,
+    pub key_point: u8,
+    pub withheld: u8,
 }
 
 /// The answer of a GeoKey lookup.

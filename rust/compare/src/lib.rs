@@ -7,6 +7,7 @@
 //! * [`spec`] builds valid files and sheets from a description; [`damage`]
 //!   changes single fields of them; [`boundaries`] has files on both sides of each
 //!   file check.
+//! * [`rooms`] releases a file into outputs of all telling lengths.
 //! * [`lent::Lent`] lends bytes from the middle of a guarded buffer.
 
 pub mod answers;
@@ -17,4 +18,5 @@ pub mod lent;
 pub mod ours;
 pub mod plain;
 pub mod rng;
+pub mod rooms;
 pub mod spec;

@@ -187,11 +187,14 @@ fn point_answer(answer: sys::las_point) -> Point {
         blue: answer.blue,
         return_number: answer.return_number,
         returns: answer.returns,
-        class_byte: answer.class_byte,
+        classification: answer.classification,
         user_data: answer.user_data,
         scan_direction: answer.scan_direction,
         edge: answer.edge,
         scan_angle: answer.scan_angle,
+        synthetic: answer.synthetic,
+        key_point: answer.key_point,
+        withheld: answer.withheld,
     }
 }
 
@@ -210,10 +213,13 @@ fn point_argument(point: &Point) -> sys::las_point {
         blue: point.blue,
         return_number: point.return_number,
         returns: point.returns,
-        class_byte: point.class_byte,
+        classification: point.classification,
         user_data: point.user_data,
         scan_direction: point.scan_direction,
         edge: point.edge,
         scan_angle: point.scan_angle,
+        synthetic: point.synthetic,
+        key_point: point.key_point,
+        withheld: point.withheld,
     }
 }

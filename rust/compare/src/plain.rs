@@ -64,12 +64,15 @@ pub fn encode(format: u8, record_length: u16, point: &Point, room: &mut [u8]) ->
         number_of_returns: point.returns,
         scan_direction: point.scan_direction != 0,
         edge_of_flight_line: point.edge != 0,
-        classification: point.class_byte,
+        classification: point.classification,
         scan_angle_rank: point.scan_angle,
         user_data: point.user_data,
         point_source_id: point.source_id,
         gps_time: point.gps_time,
         colour: [point.red, point.green, point.blue],
+        synthetic: point.synthetic != 0,
+        key_point: point.key_point != 0,
+        withheld: point.withheld != 0,
     };
     number(las_plain::encode(format, record_length, &point, room))
 }
@@ -176,11 +179,14 @@ fn point_answer(result: Result<(usize, las_plain::Point), Refusal>) -> Point {
             blue: point.colour[2],
             return_number: point.return_number,
             returns: point.number_of_returns,
-            class_byte: point.classification,
+            classification: point.classification,
             user_data: point.user_data,
             scan_direction: point.scan_direction.into(),
             edge: point.edge_of_flight_line.into(),
             scan_angle: point.scan_angle_rank,
+            synthetic: point.synthetic.into(),
+            key_point: point.key_point.into(),
+            withheld: point.withheld.into(),
         },
     }
 }

@@ -1,12 +1,19 @@
 //! Descriptions of files and sheets, from which their bytes are built.
 
+mod classification;
+mod fields;
 mod file;
 mod geokeys;
 mod record;
 mod sheet;
 mod text;
 
-pub use file::{FileSpec, POINT_SIZES, random_offset, random_point, random_scale};
+pub use classification::{
+    CLASSIFICATION, HIGHEST_CLASS, KEY_POINT, SYNTHETIC, WITHHELD, class_of, is_withheld,
+    random_classification,
+};
+pub use fields::{as_decoded, random_fields};
+pub use file::{FileSpec, POINT_SIZES, random_offset, random_point, random_point_of, random_scale};
 pub use geokeys::{directory, keys_of, projection, random_geokeys};
 pub use record::{RECORD_IDS, RecordSpec};
 pub use sheet::{LineSpec, SheetSpec};

@@ -9,12 +9,7 @@ use compare::damage::{
     MENDED, POINT_COUNT, POINT_OFFSET, RECORD_LENGTH, damage, random_double_bits, spoil,
 };
 use compare::rng::{Rng, seeds};
-use compare::spec::{FileSpec, LineSpec, POINT_SIZES, SheetSpec, random_point};
-
-/// A sheet that keeps every point.
-fn all_points() -> SheetSpec {
-    SheetSpec::new([LineSpec::Classes(0, 255)])
-}
+use compare::spec::{CLASSIFICATION, FileSpec, POINT_SIZES, SheetSpec, WITHHELD, random_point};
 
 /// Mends a file, and asks of the answer and the file what holds for every one.
 fn mend(compared: &mut Compared, file: &[u8]) -> (Mended, Vec<u8>) {
@@ -41,6 +36,16 @@ fn assert_only_marked_fields_changed(answer: &Mended, file: &[u8], mended: &[u8]
     assert_eq!(undone, file);
 }
 
+/// The same file with no point withheld, so that a sheet can keep them all.
+fn none_withheld(file: &[u8]) -> Vec<u8> {
+    let [offset, length] = [POINT_OFFSET, RECORD_LENGTH].map(|field| field.get(file) as usize);
+    let mut file = file.to_vec();
+    for point in file[offset..].chunks_exact_mut(length) {
+        point[CLASSIFICATION] &= !WITHHELD;
+    }
+    file
+}
+
 /// The number of points is the smaller one, all else is as in a release of all points, and mending again does nothing.
 fn assert_tells_the_truth(compared: &mut Compared, file: &[u8], mended: &[u8]) {
     let room = file.len() as u64 - POINT_OFFSET.get(file);
@@ -48,7 +53,8 @@ fn assert_tells_the_truth(compared: &mut Compared, file: &[u8], mended: &[u8]) {
     let count = POINT_COUNT.get(file).min(fitting);
     assert_eq!(POINT_COUNT.get(mended), count);
     let before = vec![0xEE; file.len()];
-    let (released, out) = compared.release(mended, &all_points().bytes(), &before);
+    let all = SheetSpec::all_classes().bytes();
+    let (released, out) = compared.release(&none_withheld(mended), &all, &before);
     assert_eq!((released.number, released.points), (0, count));
     for field in MENDED {
         assert_eq!(field.get(mended), field.get(&out), "{}", field.name);
@@ -62,7 +68,10 @@ fn assert_tells_the_truth(compared: &mut Compared, file: &[u8], mended: &[u8]) {
 fn assert_releases_stay(compared: &mut Compared, rng: &mut Rng, file: &[u8], mended: &[u8]) {
     let junk = rng.bytes(file.len());
     let random = [(); 3].map(|()| SheetSpec::random(rng));
-    for sheet in [SheetSpec::default(), all_points()].iter().chain(&random) {
+    for sheet in [SheetSpec::default(), SheetSpec::all_classes()]
+        .iter()
+        .chain(&random)
+    {
         let before = compared.release(file, &sheet.bytes(), &junk);
         assert_eq!(before.0.number, 0);
         let after = compared.release(mended, &sheet.bytes(), &junk);

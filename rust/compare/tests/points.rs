@@ -4,50 +4,10 @@ use compare::answers::Point;
 use compare::compared::{Compared, Function};
 use compare::damage::{random_double_bits, spoil};
 use compare::rng::{Rng, seeds};
-use compare::spec::{FileSpec, POINT_SIZES, projection, random_offset, random_point, random_scale};
-
-/// Fields of any values that encode; flags are any bytes.
-fn random_fields(rng: &mut Rng) -> Point {
-    let stored = |rng: &mut Rng| rng.next() as i32;
-    Point {
-        number: rng.next(),
-        place: rng.next(),
-        gps_time: rng.next(),
-        x: stored(rng),
-        y: stored(rng),
-        z: stored(rng),
-        intensity: rng.next() as u16,
-        source_id: rng.next() as u16,
-        red: rng.next() as u16,
-        green: rng.next() as u16,
-        blue: rng.next() as u16,
-        return_number: rng.below(8) as u8,
-        returns: rng.below(8) as u8,
-        class_byte: rng.byte(),
-        user_data: rng.byte(),
-        scan_direction: rng.pick(&[0, 0, 1, 2, 128, 255]),
-        edge: rng.pick(&[0, 0, 1, 2, 128, 255]),
-        scan_angle: rng.byte() as i8,
-    }
-}
-
-/// What decoding gives for encoded fields: flags 0 or 1, absent fields 0.
-fn as_decoded(format: u8, fields: &Point) -> Point {
-    let mut point = Point {
-        number: 0,
-        place: 0,
-        scan_direction: u8::from(fields.scan_direction != 0),
-        edge: u8::from(fields.edge != 0),
-        ..*fields
-    };
-    if format & 1 == 0 {
-        point.gps_time = 0;
-    }
-    if format < 2 {
-        (point.red, point.green, point.blue) = (0, 0, 0);
-    }
-    point
-}
+use compare::spec::{
+    FileSpec, POINT_SIZES, as_decoded, projection, random_fields, random_offset, random_point,
+    random_scale,
+};
 
 #[test]
 fn a_point_of_a_file_is_read_at_its_place() {
@@ -146,7 +106,7 @@ fn number_12_is_given_exactly_for_lengths_and_formats_that_do_not_fit() {
 }
 
 #[test]
-fn number_13_is_given_exactly_above_7() {
+fn number_13_is_given_for_returns_exactly_above_7() {
     let mut rng = Rng::new(13);
     let mut compared = Compared::new();
     for (format, size) in POINT_SIZES.into_iter().enumerate() {

@@ -5,12 +5,32 @@ use compare::answers::Released;
 use compare::compared::Compared;
 use compare::rng::{Rng, seeds};
 use compare::spec::{
-    FileSpec, LineSpec, POINT_SIZES, RecordSpec, SheetSpec, cut, padded, random_point, random_text,
-    with_tail,
+    CLASSIFICATION, FileSpec, KEY_POINT, LineSpec, POINT_SIZES, RecordSpec, SYNTHETIC, SheetSpec,
+    WITHHELD, cut, padded, random_point_of, random_text, with_tail,
 };
 
-const KEPT_CLASSES: [u8; 6] = [2, 3, 5, 40, 79, 80];
-const DROPPED_CLASSES: [u8; 7] = [0, 1, 6, 34, 66 + 16, 128, 255];
+/// Classification bytes of kept points and of others.
+const KEPT_BYTES: [u8; 8] = [
+    2,
+    3,
+    5,
+    20,
+    31,
+    2 | KEY_POINT,
+    4 | SYNTHETIC,
+    31 | SYNTHETIC | KEY_POINT,
+];
+const DROPPED_BYTES: [u8; 9] = [
+    0,
+    1,
+    6,
+    19,
+    6 | KEY_POINT,
+    19 | SYNTHETIC,
+    2 | WITHHELD,
+    31 | WITHHELD | KEY_POINT,
+    255,
+];
 const KEPT_NAMES: [(&[u8], u16); 4] = [
     (b"user", 7),
     (b"user", 8),
@@ -29,7 +49,7 @@ const DROPPED_NAMES: [(&[u8], u16); 8] = [
 ];
 
 fn sheet() -> SheetSpec {
-    let mut lines = vec![LineSpec::Classes(2, 5), LineSpec::Classes(40, 80)];
+    let mut lines = vec![LineSpec::Classes(2, 5), LineSpec::Classes(20, 200)];
     lines.extend(KEPT_NAMES.map(|(name, record_id)| LineSpec::Record(padded(name), record_id)));
     SheetSpec::new(lines)
 }
@@ -43,10 +63,9 @@ fn record(rng: &mut Rng, names: &[(&[u8], u16)]) -> RecordSpec {
     }
 }
 
-fn point(rng: &mut Rng, record_length: u16, classes: &[u8]) -> Vec<u8> {
-    let mut point = random_point(rng, record_length);
-    point[15] = rng.pick(classes);
-    point
+fn point(rng: &mut Rng, record_length: u16, bytes: &[u8]) -> Vec<u8> {
+    let byte = rng.pick(bytes);
+    random_point_of(rng, record_length, byte)
 }
 
 /// A file in which some records and points are kept and some are not.
@@ -64,12 +83,12 @@ fn mixed_file(rng: &mut Rng) -> FileSpec {
         .collect();
     spec.points = (0..rng.below(20))
         .map(|_| {
-            let classes = if rng.chance(50) {
-                KEPT_CLASSES.as_slice()
+            let bytes = if rng.chance(50) {
+                KEPT_BYTES.as_slice()
             } else {
-                &DROPPED_CLASSES
+                &DROPPED_BYTES
             };
-            point(rng, spec.record_length, classes)
+            point(rng, spec.record_length, bytes)
         })
         .collect();
     spec
@@ -94,7 +113,7 @@ const PRIVATE: [(&str, Change); 16] = [
         spec.trailing = rng.some_bytes(150);
     }),
     ("trailing bytes that look like kept points", |rng, spec| {
-        spec.trailing = point(rng, spec.record_length, &KEPT_CLASSES);
+        spec.trailing = point(rng, spec.record_length, &KEPT_BYTES);
     }),
     ("gap bytes that look like a kept record", |rng, spec| {
         spec.gap.clear();
@@ -136,19 +155,19 @@ const PRIVATE: [(&str, Change); 16] = [
         for _ in 0..rng.from_to(1, 4) {
             let place = rng.from_to(0, spec.points.len());
             spec.points
-                .insert(place, point(rng, spec.record_length, &DROPPED_CLASSES));
+                .insert(place, point(rng, spec.record_length, &DROPPED_BYTES));
         }
     }),
     ("dropped points changed", |rng, spec| {
         let dropped = spec
             .points
             .iter_mut()
-            .filter(|point| DROPPED_CLASSES.contains(&point[15]));
-        dropped.for_each(|dropped| *dropped = point(rng, spec.record_length, &DROPPED_CLASSES));
+            .filter(|point| DROPPED_BYTES.contains(&point[CLASSIFICATION]));
+        dropped.for_each(|dropped| *dropped = point(rng, spec.record_length, &DROPPED_BYTES));
     }),
     ("dropped points removed", |_, spec| {
         spec.points
-            .retain(|point| KEPT_CLASSES.contains(&point[15]));
+            .retain(|point| KEPT_BYTES.contains(&point[CLASSIFICATION]));
     }),
 ];
 
@@ -251,8 +270,8 @@ fn public_base(rng: &mut Rng) -> FileSpec {
     spec.points = Vec::new();
     for index in 0..4 {
         spec.points
-            .push(point(rng, spec.record_length, &DROPPED_CLASSES));
-        let mut kept = point(rng, spec.record_length, &KEPT_CLASSES);
+            .push(point(rng, spec.record_length, &DROPPED_BYTES));
+        let mut kept = point(rng, spec.record_length, &KEPT_BYTES);
         kept[19] = index;
         spec.points.push(kept);
     }
@@ -416,19 +435,24 @@ fn point_changes(base: &FileSpec) -> Changed {
     let mut list = Vec::new();
     for at in [1, 3, 5, 7] {
         let name = |what: &str| format!("point {at}: {what}");
-        for place in (0..usize::from(base.record_length)).filter(|&place| place != 15) {
+        for place in (0..usize::from(base.record_length)).filter(|&place| place != CLASSIFICATION) {
             let name = name(&format!("byte {place}"));
             list.push(changed(base, name, |spec| spec.points[at][place] ^= 0x40));
         }
-        for class in KEPT_CLASSES
+        for byte in KEPT_BYTES
             .into_iter()
-            .filter(|&class| class != base.points[at][15])
+            .filter(|&byte| byte != base.points[at][CLASSIFICATION])
         {
-            let name = name(&format!("class {class}"));
-            list.push(changed(base, name, |spec| spec.points[at][15] = class));
+            let name = name(&format!("classification byte {byte}"));
+            list.push(changed(base, name, |spec| {
+                spec.points[at][CLASSIFICATION] = byte
+            }));
         }
         list.push(changed(base, name("class not kept"), |spec| {
-            spec.points[at][15] = 0
+            spec.points[at][CLASSIFICATION] = 0
+        }));
+        list.push(changed(base, name("withheld"), |spec| {
+            spec.points[at][CLASSIFICATION] |= WITHHELD
         }));
         list.push(changed(base, name("removed"), |spec| {
             spec.points.remove(at);
@@ -453,7 +477,7 @@ fn assert_all_differ(changes: fn(&FileSpec) -> Changed, with_points: bool) {
             let mut base = public_base(&mut rng);
             if !with_points {
                 base.points
-                    .retain(|point| DROPPED_CLASSES.contains(&point[15]));
+                    .retain(|point| DROPPED_BYTES.contains(&point[CLASSIFICATION]));
             }
             let length = needed(&mut compared, &base) + 2 * usize::from(base.record_length) + 150;
             for (name, other) in changes(&base) {

@@ -155,7 +155,7 @@ fn refusals_come_in_the_order_file_sheet_room() {
 #[test]
 fn every_return_byte_falls_into_its_bin() {
     let mut compared = Compared::new();
-    let sheet = SheetSpec::new([LineSpec::Classes(0, 255)]);
+    let sheet = SheetSpec::all_classes();
     for byte in 0..=255u8 {
         let mut point = vec![0; 20];
         point[14] = byte;
@@ -236,37 +236,6 @@ fn the_largest_payloads_and_records_and_many_points_release_equally() {
         compared.case(format!(
             "format {format}, {points} points of {record_length}"
         ));
-        release_everywhere(&mut compared, &mut rng, &spec, &sheet);
-    }
-}
-
-#[test]
-fn every_class_byte_is_kept_by_the_whole_byte() {
-    let mut compared = Compared::new();
-    let points: Vec<Vec<u8>> = (0..=255u8)
-        .map(|class| {
-            let mut point = vec![class ^ 0x5A; 34];
-            point[15] = class;
-            point
-        })
-        .collect();
-    let spec = FileSpec {
-        points,
-        ..FileSpec::bare(3)
-    };
-    for (low, high) in [
-        (0, 0),
-        (2, 2),
-        (2, 66),
-        (31, 32),
-        (66, 66),
-        (128, 255),
-        (255, 255),
-        (0, 255),
-    ] {
-        let sheet = SheetSpec::new([LineSpec::Classes(low, high)]);
-        let mut rng = Rng::new(low.into());
-        compared.case(format!("classes {low} to {high}"));
         release_everywhere(&mut compared, &mut rng, &spec, &sheet);
     }
 }

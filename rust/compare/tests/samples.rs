@@ -6,7 +6,7 @@ use compare::ours;
 use compare::spec::{FileSpec, LineSpec, RecordSpec, SheetSpec};
 
 /// The change request up to which `las_plain` and these comparisons speak.
-const LEVEL: u64 = 2;
+const LEVEL: u64 = 3;
 
 const P3: [u8; 5] = [0x4B, 0x53, 1, 2, 2];
 
@@ -79,10 +79,13 @@ fn p7_reads_its_fields() {
         intensity: 300,
         return_number: 1,
         returns: 2,
-        class_byte: 2,
+        classification: 2,
         scan_angle: -3,
         user_data: 0,
         source_id: 7,
+        synthetic: 0,
+        key_point: 0,
+        withheld: 0,
         ..Point::default()
     };
     assert_eq!(Compared::new().decode(0, 20, &bytes), fields);

@@ -1,5 +1,6 @@
 //! Whole files.
 
+use super::classification::{CLASSIFICATION, random_classification};
 use super::geokeys::{projection, random_geokeys};
 use super::record::RecordSpec;
 use super::text::random_text;
@@ -167,7 +168,7 @@ fn random_records(rng: &mut Rng) -> Vec<RecordSpec> {
     records
 }
 
-/// A point record of any bytes; extremes and low classes are frequent.
+/// A point record of any bytes; extremes, low classes and points without flags are frequent.
 pub fn random_point(rng: &mut Rng, record_length: u16) -> Vec<u8> {
     let mut point = rng.bytes(record_length.into());
     for axis in 0..3 {
@@ -176,9 +177,14 @@ pub fn random_point(rng: &mut Rng, record_length: u16) -> Vec<u8> {
             point[4 * axis..4 * axis + 4].copy_from_slice(&stored.to_le_bytes());
         }
     }
-    if rng.chance(75) {
-        point[15] = rng.below(10) as u8;
-    }
+    point[CLASSIFICATION] = random_classification(rng);
+    point
+}
+
+/// A random point with this classification byte.
+pub fn random_point_of(rng: &mut Rng, record_length: u16, byte: u8) -> Vec<u8> {
+    let mut point = random_point(rng, record_length);
+    point[CLASSIFICATION] = byte;
     point
 }
 

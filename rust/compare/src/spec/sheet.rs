@@ -1,5 +1,6 @@
 //! Keep sheets.
 
+use super::classification::{CLASSIFICATION, class_of, is_withheld};
 use super::record::{RECORD_IDS, RecordSpec};
 use super::text::{USER_IDS, cut, with_tail};
 use crate::rng::Rng;
@@ -51,6 +52,11 @@ impl SheetSpec {
         }
     }
 
+    /// A sheet that keeps every point that is not withheld.
+    pub fn all_classes() -> Self {
+        Self::new([LineSpec::Classes(0, 255)])
+    }
+
     /// A sheet that passes; a few are empty or have all 64 lines.
     pub fn random(rng: &mut Rng) -> Self {
         let lines = match rng.below(20) {
@@ -73,8 +79,10 @@ impl SheetSpec {
         )
     }
 
+    /// Whether the point is not withheld, and of a class that the sheet keeps.
     pub fn keeps_point(&self, point: &[u8]) -> bool {
-        self.keeps_class(point[15])
+        let byte = point[CLASSIFICATION];
+        !is_withheld(byte) && self.keeps_class(class_of(byte))
     }
 
     pub fn keeps_record(&self, record: &RecordSpec) -> bool {

@@ -3,9 +3,9 @@
 
 use std::collections::BTreeSet;
 
-use compare::answers::Released;
 use compare::compared::Compared;
 use compare::rng::{FIXED_SEED, Rng};
+use compare::rooms::{Answer, release};
 use compare::spec::{FileSpec, LineSpec, RecordSpec, SheetSpec, padded, projection};
 
 use super::table::{self, Case};
@@ -49,22 +49,6 @@ fn sheet<'a>(names: impl IntoIterator<Item = &'a [u8]>) -> Vec<u8> {
     let lines = names.map(|name| LineSpec::Record(padded(name), ID));
     let all = [LineSpec::Classes(2, 2)].into_iter().chain(lines);
     SheetSpec::new(all.collect::<Vec<_>>()).bytes()
-}
-
-/// The numbers, and what the output holds.
-type Answer = (Released, Vec<u8>);
-
-/// Releases a file into outputs that are long enough, exact and too short, with any bytes in them.
-fn release(compared: &mut Compared, rng: &mut Rng, file: &[u8], sheet: &[u8]) -> [Answer; 3] {
-    let (refused, _) = compared.release(file, sheet, &[]);
-    assert_eq!(refused.number, 30);
-    let needed = refused.length as usize;
-    let [long, exact, (short, _)] = [needed + 70, needed, needed - 1].map(|length| {
-        let junk = rng.bytes(length);
-        compared.release(file, sheet, &junk)
-    });
-    assert_eq!([long.0.number, exact.0.number, short.number], [0, 0, 30]);
-    [long, exact, (short, Vec::new())]
 }
 
 /// The releases of the file with each case in this field.
