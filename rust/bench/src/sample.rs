@@ -9,7 +9,7 @@ pub const SHEET: [u8; 5] = [0x4B, 0x53, 1, 2, 2];
 /// Where the points begin.
 pub const HEADER: usize = 227;
 
-/// The place of the class in a point of any format.
+/// The place of the classification byte in a point of any format.
 const CLASS: usize = 15;
 
 /// Which points are kept.

@@ -1,19 +1,20 @@
 //! A file in which everything that is not released has one byte value, and a sheet for it.
 
 use compare::rng::{FIXED_SEED, Rng};
-use compare::spec::{FileSpec, LineSpec, RecordSpec, SheetSpec, padded};
+use compare::spec::{CLASSIFICATION, FileSpec, LineSpec, RecordSpec, SheetSpec, class_of, padded};
 
 /// What the output holds before a release.
 pub const MARKER: u8 = 0x5C;
 /// Every byte of a kept point but its class, and of a kept record's payload.
 const KEPT: u8 = 0x11;
-/// Every byte that is not released but the classes of points, and names and lengths of records.
+/// Every byte that is not released but the class of points that are not withheld, and names and lengths of records.
 pub const DROPPED: u8 = 0xA5;
 
 const POINTS: usize = 200_000;
 const PAYLOAD: usize = 60_000;
-const KEPT_CLASS: u8 = 2;
-const DROPPED_CLASS: u8 = 3;
+/// The class of a withheld point of dropped bytes alone: nothing but its flag holds that point back.
+const KEPT_CLASS: u8 = class_of(DROPPED);
+const DROPPED_CLASS: u8 = KEPT_CLASS + 1;
 const NAME: &[u8] = b"power cut";
 const KEPT_ID: u16 = 1;
 const DROPPED_ID: u16 = 2;
@@ -25,7 +26,7 @@ pub fn sheet() -> Vec<u8> {
     SheetSpec::new([classes, record]).bytes()
 }
 
-/// The file: half of the points are kept at random, and one of two records.
+/// The file: half of the points are kept at random, a quarter are withheld, and one of two records is kept.
 pub fn file() -> Vec<u8> {
     let mut rng = Rng::new(FIXED_SEED);
     FileSpec {
@@ -36,21 +37,20 @@ pub fn file() -> Vec<u8> {
         header_extra: vec![DROPPED; 1_000],
         records: vec![record(DROPPED_ID, DROPPED), record(KEPT_ID, KEPT)],
         gap: vec![DROPPED; 10_000],
-        points: (0..POINTS).map(|_| point(rng.chance(50))).collect(),
+        points: (0..POINTS).map(|_| point(&mut rng)).collect(),
         trailing: vec![DROPPED; 10_000],
         ..FileSpec::bare(1)
     }
     .bytes()
 }
 
-fn point(kept: bool) -> Vec<u8> {
-    let (byte, class) = if kept {
-        (KEPT, KEPT_CLASS)
-    } else {
-        (DROPPED, DROPPED_CLASS)
-    };
+/// A point that is kept, or of another class, or withheld.
+fn point(rng: &mut Rng) -> Vec<u8> {
+    let kept = (KEPT, KEPT_CLASS);
+    let others = [(DROPPED, DROPPED_CLASS), (DROPPED, DROPPED)];
+    let (byte, class_byte) = rng.pick(&[kept, kept, others[0], others[1]]);
     let mut point = vec![byte; 28];
-    point[15] = class;
+    point[CLASSIFICATION] = class_byte;
     point
 }
 
