@@ -10,6 +10,8 @@ import struct
 
 HERE = os.path.dirname(os.path.abspath(__file__))
 SIZES = {0: 20, 1: 28, 2: 26, 3: 34}
+# The flags of a classification byte; the class is in the five bits below them.
+SYNTHETIC, KEY_POINT, WITHHELD = 32, 64, 128
 
 
 # ---- making a file
@@ -26,10 +28,10 @@ def vlr(user, record_id, description, payload, junk=b"", reserved=0xAABB):
         + text(description, 32, junk) + payload
 
 
-def point(fmt, x, y, z, intensity, flags, cls, angle, user, source, time=0, colour=(0, 0, 0), extra=b""):
+def point(fmt, x, y, z, intensity, flags, class_byte, angle, user, source, time=0, colour=(0, 0, 0), extra=b""):
     number, returns, scan, edge = flags
     body = struct.pack("<iiiHBBbBH", x, y, z, intensity, number | returns << 3 | scan << 6 | edge << 7,
-                       cls, angle, user, source)
+                       class_byte, angle, user, source)
     if fmt in (1, 3):
         body += struct.pack("<Q", time)
     if fmt in (2, 3):
@@ -90,7 +92,7 @@ def kept_points(f, classes):
     at, = struct.unpack_from("<I", f, 96)
     length, count = struct.unpack_from("<HI", f, 105)
     points = [f[at + i * length:at + (i + 1) * length] for i in range(count)]
-    return [p for p in points if any(low <= p[15] <= high for low, high in classes)]
+    return [p for p in points if p[15] < WITHHELD and any(low <= p[15] % 32 <= high for low, high in classes)]
 
 
 def bounds_of(f, points):
@@ -151,15 +153,16 @@ def survey():
     34735) and its doubles (34736), not its text (34737), and names the directory twice. The directory's user ID ends in
     a space in the file, the doubles' in the sheet; the system identifier and the directory's description have spaces
     before their zero, and the doubles' description is spaces alone. The sheet keeps classes 2 to 5. One point of class
-    5 has stored X -2147483648, one of class 4 the largest stored Z. Points of class 1, 6 and 255 are left out."""
+    5 has stored X -2147483648, one of class 4 the largest stored Z. A synthetic point of class 3 and a key point of
+    class 2 go out. Points of class 1 and 6 are left out, and a withheld one of class 4, with the smallest stored Z."""
     keys = struct.pack("<4H", 1, 1, 0, 3) + struct.pack("<12H", 1024, 0, 1, 1, 2057, 34736, 1, 0, 3072, 0, 1, 32633)
     vlrs = [vlr(b"LASF_Projection", 34737, b"text parameters", b"WGS 84 / UTM 33N|", b"z"),
             vlr(b"LASF_Projection ", 34735, b"GeoKey directory  ", keys, b"draft 3", 0),
             vlr(b"LASF_Spec", 0, b"classes", bytes(16), b"q"),
             vlr(b"LASF_Projection", 34736, b"   ", struct.pack("<d", 6378137.0), b"hidden"),
             vlr(b"lasf_projection", 34735, b"wrong case", b"1234", b"q")]
-    values = [(-2147483648, 0, 7, 5), (2147483647, 2147483647, 1, 6), (12, -40, 2147483647, 4), (5, 5, 5, 1), (-3, 9, -8, 3),
-              (77, 1, 0, 2), (0, 0, -99, 255), (41, -2147483648, 3, 2)]
+    values = [(-2147483648, 0, 7, 5), (2147483647, 2147483647, 1, 6), (12, -40, 2147483647, 4), (5, 5, 5, 1),
+              (-3, 9, -8, 3 | SYNTHETIC), (77, 1, 0, 2 | KEY_POINT), (0, 0, -99, 4 | WITHHELD), (41, -2147483648, 3, 2)]
     points = [point(3, x, y, z, 65535 - i, (1 + i % 5, 5, i & 1, 0), cls, 90 - i, 255 - i, i, time=i << 60 | 0xABC,
                     colour=(i, 256 * i, 65535), extra=bytes([i]) * 6) for i, (x, y, z, cls) in enumerate(values)]
     stated = ((0, 0, 0, 0, 0), (float("nan"),) * 6)
