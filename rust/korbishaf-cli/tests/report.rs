@@ -1,6 +1,8 @@
 //! `korbishaf report`, as a process.
 
 mod common;
+#[path = "common/warned.rs"]
+mod warned;
 
 use common::json::{self, Value};
 use common::scan::{of_classes, point, record};
@@ -8,59 +10,13 @@ use common::{Ran, Scratch};
 use compare::damage::spoil;
 use compare::rng::{Rng, seeds};
 use compare::spec::{FileSpec, SheetSpec, directory, projection};
+use las_plain::Point;
+use std::collections::BTreeMap;
 use std::fs::File;
+use warned::{is_silent, warnings, warns, with_files};
 
 /// How many random files and sheets are compared with `las_plain`, for each seed.
 const FILES: usize = 150;
-
-/// A folder with the files `in.las` and `sheet.txt`.
-fn with_files(file: &[u8], sheet: impl AsRef<[u8]>) -> Scratch {
-    let scratch = Scratch::new();
-    scratch.write("in.las", file);
-    scratch.write("sheet.txt", sheet);
-    scratch
-}
-
-/// The warnings of a report: kinds and words. Text and JSON have to have the same, and the status is 0.
-fn warnings(file: &FileSpec, sheet: &str) -> Vec<(String, String)> {
-    let scratch = with_files(&file.bytes(), sheet);
-    let text = scratch.says("report in.las sheet.txt");
-    let ran = scratch.says("report --json in.las sheet.txt");
-    for ran in [&text, &ran] {
-        assert_eq!((ran.status, ran.err.as_str()), (Some(0), ""), "{sheet}");
-    }
-    let json = json::read(&ran.out).expect("JSON");
-    let found: Vec<_> = json.at("warnings").list().iter().map(warning).collect();
-    let words = match found.as_slice() {
-        [] => "  none\n".to_string(),
-        found => found
-            .iter()
-            .map(|(_, words)| format!("  - {words}\n"))
-            .collect(),
-    };
-    let (_, section) = text.out.split_once("\nWarnings\n").expect("a section");
-    assert_eq!(section, words);
-    found
-}
-
-fn warning(json: &Value) -> (String, String) {
-    let [kind, words] = ["kind", "words"].map(|name| json.at(name).text().to_string());
-    (kind, words)
-}
-
-/// Asserts that a report has this warning and no other.
-fn warns(file: &FileSpec, sheet: &str, kind: &str, words: &str) {
-    assert_eq!(
-        warnings(file, sheet),
-        [(kind.to_string(), words.to_string())],
-        "{sheet}"
-    );
-}
-
-/// Asserts that a report has no warning.
-fn is_silent(file: &FileSpec, sheet: &str) {
-    assert_eq!(warnings(file, sheet), [], "{sheet}");
-}
 
 #[test]
 fn the_cards_are_reported_on_and_nothing_is_written() {
@@ -246,25 +202,6 @@ fn near_names_that_are_many_are_counted() {
 }
 
 #[test]
-fn points_that_stay_for_a_flag() {
-    let file = of_classes(&[2, 6, 66, 66, 130]);
-    is_silent(&file, "class 6");
-    is_silent(&file, "class 2\nclass 66\nclass 130");
-    let stays = |words: &str| ("flags_not_kept".to_string(), words.to_string());
-    let wanted = [
-        stays(
-            "class 66 (ground, key-point) stays, 2 points, though class 2 goes out: a class is the whole byte, with \
-             its flags; the line 'class 66' would keep it",
-        ),
-        stays(
-            "class 130 (ground, withheld) stays, 1 point, though class 2 goes out: a class is the whole byte, with \
-             its flags; the line 'class 130' would keep it",
-        ),
-    ];
-    assert_eq!(warnings(&file, "class ground"), wanted);
-}
-
-#[test]
 fn all_or_none_of_the_points() {
     let file = of_classes(&[2, 2, 6]);
     is_silent(&file, "class 2");
@@ -296,7 +233,7 @@ fn stated_counts_and_bounds_that_are_wrong() {
 
 #[test]
 fn what_warnings_speak_of_is_in_json() {
-    let mut file = of_classes(&[2, 66]);
+    let mut file = of_classes(&[2, 130]);
     file.records.push(record(b"Yard\x07", 7, 1));
     file.old_by_return = [9, 0, 0, 0, 0];
     let sheet = "class 2\n# a comment\r\nrecord \"yard \\x07\" 7\n\nclass 9";
@@ -309,8 +246,9 @@ fn what_warnings_speak_of_is_in_json() {
         ("1/line_text", "class 9"),
         ("2/kind", "record_nearly_named"),
         ("2/user_id", "Yard\\x07"),
-        ("3/kind", "flags_not_kept"),
-        ("4/kind", "returns_wrong"),
+        ("3/kind", "withheld_stays"),
+        ("4/kind", "every_point_goes_out"),
+        ("5/kind", "returns_wrong"),
     ] {
         assert_eq!(json.at(path).text(), wanted, "{path}");
     }
@@ -320,11 +258,11 @@ fn what_warnings_speak_of_is_in_json() {
         ("2/first_record", 1),
         ("2/records", 1),
         ("2/record_id", 7),
-        ("3/class", 66),
-        ("3/kept_class", 2),
+        ("3/class", 2),
         ("3/points", 1),
-        ("4/values/0/stated", 9),
-        ("4/values/0/actual", 2),
+        ("4/points", 2),
+        ("5/values/0/stated", 9),
+        ("5/values/0/actual", 2),
     ] {
         assert_eq!(json.at(path).number(), wanted, "{path}");
     }
@@ -442,19 +380,10 @@ fn what_goes_out_and_what_stays_agree_with_las_plain() {
     }
 }
 
-/// The classes and records that go out, or that stay, by the sheet's own description.
+/// The points and records that go out, or that stay, by the sheet's own description.
 fn assert_share(file: &FileSpec, sheet: &SheetSpec, json: &Value, going_out: bool) {
     let share = json.at(if going_out { "goes_out" } else { "stays" });
-    let mut classes = std::collections::BTreeMap::new();
-    for point in &file.points {
-        if sheet.keeps_point(point) == going_out {
-            *classes.entry(u64::from(point[15])).or_insert(0) += 1;
-        }
-    }
-    let found = share.at("points_by_class").list().iter();
-    let found = found.map(|count| (count.at("class").number(), count.at("points").number()));
-    assert!(found.eq(classes.clone()), "{share:?}");
-    assert_eq!(share.at("points").number(), classes.values().sum::<u64>());
+    assert_points(file, sheet, share, going_out);
     let records = (1..).zip(&file.records);
     let wanted = records.filter(|(_, record)| sheet.keeps_record(record) == going_out);
     let found = share.at("records").list().iter();
@@ -468,4 +397,54 @@ fn assert_share(file: &FileSpec, sheet: &SheetSpec, json: &Value, going_out: boo
         found.eq(wanted.map(|(number, record)| (number, record.record_id.into()))),
         "{share:?}"
     );
+}
+
+/// Points are listed by class, apart from each other if they stay for another reason; of those that go out it is said
+/// which flags they have.
+fn assert_points(file: &FileSpec, sheet: &SheetSpec, share: &Value, going_out: bool) {
+    let points = file.points.iter().map(|bytes| {
+        let point = las_plain::decode(file.format, file.record_length, bytes).unwrap();
+        (point, sheet.keeps_point(bytes))
+    });
+    let points: Vec<_> = points
+        .filter(|(_, kept)| *kept == going_out)
+        .map(|(point, _)| point)
+        .collect();
+    assert_eq!(share.at("points").number(), points.len() as u64);
+    let open = points.iter().filter(|point| !point.withheld);
+    assert_eq!(listed(share, "points_by_class"), by_class(open));
+    if going_out {
+        let count = |has: fn(&Point) -> bool| points.iter().filter(|point| has(point)).count();
+        let wanted = [
+            ("synthetic", count(|point| point.synthetic)),
+            ("key_point", count(|point| point.key_point)),
+            ("withheld", 0),
+        ];
+        for (flag, wanted) in wanted {
+            let found = share.at("points_by_flag").at(flag).number();
+            assert_eq!(found, wanted as u64, "{flag}");
+        }
+    } else {
+        let withheld = points.iter().filter(|point| point.withheld);
+        assert_eq!(
+            listed(share, "withheld_points_by_class"),
+            by_class(withheld)
+        );
+    }
+}
+
+/// The numbers of points by class, as a list of the report has them.
+fn listed(share: &Value, name: &str) -> Vec<(u64, u64)> {
+    let counts = share.at(name).list().iter();
+    counts
+        .map(|count| (count.at("class").number(), count.at("points").number()))
+        .collect()
+}
+
+fn by_class<'a>(points: impl Iterator<Item = &'a Point>) -> Vec<(u64, u64)> {
+    let mut classes = BTreeMap::new();
+    for point in points {
+        *classes.entry(u64::from(point.classification)).or_insert(0) += 1;
+    }
+    classes.into_iter().collect()
 }

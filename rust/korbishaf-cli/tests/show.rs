@@ -152,10 +152,14 @@ Records
   4  ""own"\x0A \xFC" 7         1 byte  "\x1B[2J"
 
 Points by class
-    2  ground                                    1
-   10  reserved                                  1
-   66  ground, key-point                         2
-  255  reserved, synthetic, key-point, withheld  1
+   2  ground    3
+  10  reserved  1
+  31  reserved  1
+
+Points by flag
+  synthetic  1
+  key-point  3
+  withheld   1
 
 Points by return number
      stated  actual
@@ -201,7 +205,7 @@ fn texts_in_json() {
         ("header/generating_software", r"\x07bell"),
         ("records/3/user_id", r#""own"\x0A \xFC"#),
         ("records/3/description", r"\x1B[2J"),
-        ("points_by_class/2/flags/0", "key-point"),
+        ("points_by_class/0/name", "ground"),
         ("bounds/min_z/stated", "inf"),
         ("geokeys/keys/0/meaning", "geographic"),
         ("geokeys/keys/1/kind", "double"),
@@ -217,8 +221,11 @@ fn numbers_and_marks_in_json() {
     for (path, wanted) in [
         ("header/extra_bytes_per_point", 2),
         ("gap_before_points/length", 3),
-        ("points_by_class/2/class", 66),
-        ("points_by_class/2/points", 2),
+        ("points_by_class/0/points", 3),
+        ("points_by_class/2/class", 31),
+        ("points_by_flag/synthetic", 1),
+        ("points_by_flag/key_point", 3),
+        ("points_by_flag/withheld", 1),
         ("points_by_return/2/stated", 9),
         ("points_by_return/2/actual", 1),
         ("geokeys/keys/0/value", 2),
@@ -239,6 +246,7 @@ fn numbers_and_marks_in_json() {
     ] {
         assert_eq!(json.at(path), &Value::Bool(wanted), "{path}");
     }
+    assert_eq!(json.at("points_by_class/2/name"), &Value::Null);
     assert_eq!(json.at("points_by_return/0/stated"), &Value::Null);
     assert_eq!(json.at("geokeys/refusal"), &Value::Null);
 }
@@ -249,6 +257,7 @@ fn a_file_without_points_has_bounds_of_zero() {
     let text = shown(&file.bytes());
     assert_eq!(section(&text, "Records"), ["  none"]);
     assert_eq!(section(&text, "Points by class"), ["  none"]);
+    assert_eq!(section(&text, "Points by flag"), ["  none"]);
     assert_eq!(section(&text, "Bounds").len(), 7);
     assert!(!text.contains("differs"));
     file.old_bounds[3] = 1f64.to_bits();
@@ -438,10 +447,11 @@ fn counts_and_bounds_agree_with_las_plain() {
     }
 }
 
-/// What is compared: points by class and by return, the bounds' bits, and the sizes of records.
+/// What is compared: points by class, by flag and by return, the bounds' bits, and the sizes of records.
 #[derive(Debug, PartialEq)]
 struct Counts {
     by_class: Vec<(u64, u64)>,
+    by_flag: [u64; 3],
     by_return: Vec<u64>,
     bounds: Vec<u64>,
     payloads: Vec<u64>,
@@ -457,6 +467,8 @@ impl Counts {
             by_class: classes
                 .map(|count| (count.at("class").number(), count.at("points").number()))
                 .collect(),
+            by_flag: ["synthetic", "key_point", "withheld"]
+                .map(|flag| json.at("points_by_flag").at(flag).number()),
             by_return: returns.map(|count| count.at("actual").number()).collect(),
             bounds: names
                 .map(|name| json.at(&format!("bounds/{name}/actual")).double().to_bits())
@@ -481,6 +493,11 @@ impl Counts {
         let by_return = (0..8).map(|number: u8| count(&|point| point.return_number == number));
         Counts {
             by_class: by_class.filter(|&(_, points)| points > 0).collect(),
+            by_flag: [
+                count(&|point| point.synthetic),
+                count(&|point| point.key_point),
+                count(&|point| point.withheld),
+            ],
             by_return: by_return.collect(),
             bounds: plain_bounds(file),
             payloads: read.vlrs().map(|vlr| vlr.payload.len() as u64).collect(),
@@ -488,11 +505,11 @@ impl Counts {
     }
 }
 
-/// The bounds that `las_plain` states in a release of every point.
+/// The bounds that `las_plain` states where it mends the file: those of every point, withheld ones too.
 fn plain_bounds(file: &[u8]) -> Vec<u64> {
-    let mut out = vec![0; file.len()];
-    las_plain::release(file, b"KS\x01\x00\xFF", &mut out).unwrap();
-    let bounds = LasFile::open(&out).unwrap().header().bounds;
+    let mut mended = file.to_vec();
+    las_plain::mend(&mut mended).unwrap();
+    let bounds = LasFile::open(&mended).unwrap().header().bounds;
     let pairs = bounds.max.iter().zip(&bounds.min);
     pairs
         .flat_map(|(max, min)| [max.to_bits(), min.to_bits()])

@@ -127,7 +127,7 @@ fn words_that_are_missing_or_too_many_are_wrong_usage() {
 
 #[test]
 fn the_version() {
-    let version = concat!("korbishaf ", env!("CARGO_PKG_VERSION"), " (level 2)\n");
+    let version = concat!("korbishaf ", env!("CARGO_PKG_VERSION"), " (level 3)\n");
     assert_eq!(says("--version"), Ran::new(0, version, ""));
     assert_eq!(says("-V"), Ran::new(0, version, ""));
     for option in ["--version", "--help"] {
@@ -167,6 +167,9 @@ fn every_number_is_explained() {
     let seven = "refused 7: point offset below the header size or above the file's length\n\
                  The header is damaged, or the file was cut short before its points.\n";
     assert_eq!(says("explain 7").out, seven);
+    let thirteen = "refused 13: a return number, a number of returns or a class is too large to encode\n\
+                    Return numbers go up to 7, and classes up to 31. Only calls of the library give this number.\n";
+    assert_eq!(says("explain 13").out, thirteen);
     assert!(says("explain 9").out.contains("'korbishaf mend'"));
 }
 

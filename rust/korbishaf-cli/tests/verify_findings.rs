@@ -299,12 +299,13 @@ fn points_that_are_not_kept_are_found() {
     );
     not_verified(
         |spec| {
-            for class in [200, 6, 200, 200] {
+            // points of class 8, two of them key points and one synthetic
+            for class in [72, 6, 72, 40] {
                 spec.points.insert(1, point([3, 3, -1], 0, class));
             }
         },
         "byte 107, number of points: 6, a release has 2\n  \
-         byte 311: 3 points of class 200 (model-key-point, key-point, withheld), 60 bytes: \
+         byte 311: 3 points of class 8 (model-key-point), 60 bytes: \
          the sheet does not keep them; the first has index 1\n  \
          byte 351: 1 point of class 6 (building), 20 bytes: the sheet does not keep it; its index is 3",
     );

@@ -69,7 +69,7 @@ const ADVICE: [(u64, &str); 29] = [
     ),
     (
         13,
-        "Three bits hold a return number: 0 to 7. Only calls of the library give this number.",
+        "Return numbers go up to 7, and classes up to 31. Only calls of the library give this number.",
     ),
     (
         18,

@@ -19,7 +19,8 @@ pub const COMMAND: Command = Command {
     summary: "write what SHEET keeps of the scan IN to OUT",
     details: "\
 Writes what the keep sheet SHEET keeps of the scan IN to the file OUT, and prints 'released LENGTH points
-NUMBER records NUMBER', or 'refused NUMBER' and the reason in words on standard error.
+NUMBER records NUMBER', or 'refused NUMBER' and the reason in words on standard error. Withheld points
+never go out, whatever SHEET says.
 
 OUT is whole or not there: it is written under a name of its own in the same folder, flushed, and then
 renamed. What is there already is replaced only with --force, and never if it is IN or SHEET; a link

@@ -28,6 +28,10 @@ Says what a release of the scan IN under the keep sheet SHEET would have, and wr
 out, what stays, what is published whatever the sheet says, and warnings. The status is 0 with warnings
 too. What a release would refuse is refused, with the reason in words on standard error.
 
+A line for class 2 keeps the synthetic points and the key points of class 2 too; 'points by flag' says
+how many points with these flags go out. Withheld points stay whatever the sheet says, and are listed
+apart from those that stay since the sheet does not keep their class.
+
 A release has every byte of a point that goes out, and of a record all but its reserved field. Of a
 text field, what stands from its first zero byte on stays, and so do the spaces before that. Counts and
 bounds are worked out anew.
@@ -37,8 +41,8 @@ It warns of
   lines of the sheet that match nothing in IN
   records that stay, though but for case or blanks a line of the sheet has their name
   a GeoKey directory that goes out without the records that its keys point to
-  points that stay for a flag in the upper bits of their class, such as 66 where class 2 goes out
-  all or none of the points going out
+  withheld points, where the sheet keeps their class
+  all or none of the points going out, withheld ones not counted
   points by return and bounds that IN states wrongly
 
 A line of a sheet that is a text is named by its file and its place there, as in sheet.txt:5; the lines

@@ -28,6 +28,10 @@ A text has lines like these; what follows a '#' is a comment:
   record LASF_Projection 34735   records with that user ID and record ID
   record \"my survey\" 7           a user ID with a blank stands in double quotes
 
+A class is the lower five bits of a point's classification byte, without the flags above them: 'class 2'
+keeps the synthetic points and the key points of class 2 too (the bytes 34, 66 and 98). Withheld points
+never go out. A line may have classes up to 255; in point formats 0 to 3 no point has one above 31.
+
 Spaces at the end of a user ID do not count, neither here nor in a scan: 'record yard 7' also keeps the
 records of a maker who fills user IDs with spaces. A sheet has at most 64 lines; an empty one keeps
 nothing.

@@ -20,13 +20,17 @@ pub const COMMAND: Command = Command {
     summary: "show what is in a scan: header, records, points by class, GeoKeys",
     details: "\
 Shows what is in the scan FILE: the header, bytes beside records and points, the records, the points by
-class and by return number, the bounds, and the keys of the GeoKey directory. A file that does not pass
-is refused, with the reason in words on standard error.
+class, by flag and by return number, the bounds, and the keys of the GeoKey directory. A file that does
+not pass is refused, with the reason in words on standard error.
 
-A class is the whole classification byte; 'ground, key-point' says what its lower and its upper bits mean
-in LAS 1.2. The header states points by return and bounds, which may be wrong: both are there as stated
-and as they actually are, and 'differs' marks what is not the same. The actual bounds are the coordinates
-of the largest and the smallest stored values; without points they are 0.
+A class is the lower five bits of the classification byte, 0 to 31. The three bits above are flags:
+synthetic, key-point and withheld. Each is counted by itself, so that a point with two flags counts at
+both. A sheet for class 2 takes its synthetic points and its key points too; withheld points never go
+out.
+
+The header states points by return and bounds, which may be wrong: both are there as stated and as they
+actually are, and 'differs' marks what is not the same. The actual bounds are the coordinates of the
+largest and the smallest stored values; without points they are 0.
 
 GeoKeys stand in the order of the directory: shorts and doubles as numbers, texts in quotes as they are,
 with a '|' at the end if there is one, and cut behind 255 bytes. Where a key can't be read, the number

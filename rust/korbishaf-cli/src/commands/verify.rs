@@ -35,13 +35,14 @@ Each file has a line, in order, and the last line says how many were verified:
 A file that passes the checks and is not verified has the first byte that differs in its line, counted
 from 0, with the part of the file that it is in, what stands in that part and what a release has there.
 The lines below say what is in the file that a release would not have: records and points that the sheet
-does not keep; bytes behind the last counted point, between the records and the points, behind the
-header, in reserved fields and behind the end of a text, spaces too; counts by return and bounds that are
-not those of the file's own points. These lines explain and do not decide. Of those about records the
-first 32 are there, and how many more.
+does not keep; withheld points; bytes behind the last counted point, between the records and the points,
+behind the header, in reserved fields and behind the end of a text, spaces too; counts by return and
+bounds that are not those of the file's own points. These lines explain and do not decide. Of those about
+records the first 32 are there, and how many more.
 
-A file that a library below level 2 released ('korbishaf --version' says the level) may have spaces at
-the end of a text, and is not verified then; releasing it again drops them.
+A file that a library of a lower level released ('korbishaf --version' says the level) may have what a
+release no longer has, and is not verified then: spaces at the end of a text, from below level 2, and
+withheld points and points that a line above 31 kept, from below level 3. Releasing it again drops them.
 
 One of the words may be '-' for standard input. A file that can't be read is named on standard error, and
 the others are still looked at. The exit status is 3 if a file was not read, else 1 if one was not

@@ -6,7 +6,7 @@ use crate::shown;
 use korbishaf::{Guid, Header};
 
 /// The fields that every point format has.
-const SHARED: [&str; 12] = [
+const SHARED: [&str; 14] = [
     "X",
     "Y",
     "Z",
@@ -16,6 +16,8 @@ const SHARED: [&str; 12] = [
     "scan direction",
     "edge of flight line",
     "class",
+    "synthetic",
+    "key-point",
     "scan angle rank",
     "user data",
     "point source ID",

@@ -1,12 +1,13 @@
 //! Facts as JSON.
 
+use super::class::Flag;
 use super::geokeys::{self, GeoKey, Value};
 use super::header::Field;
 use super::stated::Bound;
-use super::{Facts, class, records};
+use super::{Facts, records};
 use crate::json::{Json, LazyJson};
 use crate::shown;
-use korbishaf::{Error, Record};
+use korbishaf::{Error, Record, class_name};
 
 /// The fields of a header, as an object.
 pub fn header(fields: &[Field<'_>]) -> Json {
@@ -49,11 +50,16 @@ pub fn classes(counts: impl Iterator<Item = (u8, u64)>) -> Json {
     Json::list(counts, |(class, points)| {
         Json::Object(vec![
             ("class", Json::number(class)),
-            ("name", optional(class::name(class))),
-            ("flags", Json::list(class::flags(class), Json::text)),
+            ("name", optional(class_name(class))),
             ("points", Json::number(points)),
         ])
     })
+}
+
+/// Numbers of points by flag, as an object.
+pub fn flags(counts: [(Flag, u64); 3]) -> Json {
+    let members = counts.map(|(flag, points)| (flag.member, Json::number(points)));
+    Json::Object(members.into())
 }
 
 /// Numbers of points by return number. The header states them for 1 to 5.

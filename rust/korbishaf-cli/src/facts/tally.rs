@@ -1,5 +1,6 @@
 //! Counts and extremes of the points.
 
+use super::class::{CLASSES, ClassByte, FLAGS, Flag};
 use korbishaf::{Point, Points};
 
 /// How many points are counted before it is said how far the pass is.
@@ -8,9 +9,9 @@ const STEP: u64 = 1 << 16;
 /// What one pass over the points gives.
 #[derive(Debug, PartialEq, Eq)]
 pub struct Tally {
-    /// The number of points of each class, which is the whole classification byte.
-    by_class: [u64; 256],
-    /// The index of the first point of each class, from 0, where there is one.
+    /// The number of points of each classification byte.
+    counts: [u64; 256],
+    /// The index of the first point of each classification byte, from 0, where there is one.
     first: [u64; 256],
     /// The number of points of each return number, 0 to 7.
     pub by_return: [u64; 8],
@@ -22,7 +23,7 @@ impl Tally {
     /// The tally of these points. Now and then it is said how many were counted.
     pub fn of(points: Points<'_>, advance: impl Fn(u64)) -> Self {
         let mut tally = Tally {
-            by_class: [0; 256],
+            counts: [0; 256],
             first: [0; 256],
             by_return: [0; 8],
             extremes: None,
@@ -37,11 +38,11 @@ impl Tally {
     }
 
     fn add(&mut self, index: u64, point: &Point) {
-        let class = usize::from(point.class);
-        if self.by_class[class] == 0 {
-            self.first[class] = index;
+        let place = usize::from(ClassByte::of(point).0);
+        if self.counts[place] == 0 {
+            self.first[place] = index;
         }
-        self.by_class[class] += 1;
+        self.counts[place] += 1;
         self.by_return[usize::from(point.return_number & 7)] += 1;
         let stored = [point.x, point.y, point.z];
         match &mut self.extremes {
@@ -55,14 +56,39 @@ impl Tally {
         }
     }
 
-    /// The index of the first point of a class that there are points of.
-    pub fn first(&self, class: u8) -> u64 {
-        self.first[usize::from(class)]
+    /// Such classification bytes as there are points of.
+    fn found(&self, such: impl Fn(ClassByte) -> bool) -> impl Iterator<Item = ClassByte> {
+        let all = (0..=255).map(ClassByte);
+        all.filter(move |&found| self.counts[usize::from(found.0)] > 0 && such(found))
     }
 
-    /// The classes that there are points of, with the numbers of these.
-    pub fn classes(&self) -> impl Iterator<Item = (u8, u64)> + Clone + use<> {
-        let counts = (0..=255).zip(self.by_class);
+    /// The number of points with such classification bytes.
+    pub fn points(&self, such: impl Fn(ClassByte) -> bool) -> u64 {
+        let found = self.found(such);
+        found.map(|found| self.counts[usize::from(found.0)]).sum()
+    }
+
+    /// The index of the first point with such classification bytes, if there is one.
+    pub fn first(&self, such: impl Fn(ClassByte) -> bool) -> Option<u64> {
+        let found = self.found(such);
+        found.map(|found| self.first[usize::from(found.0)]).min()
+    }
+
+    /// The classes of the points with such classification bytes, with the numbers of these.
+    pub fn classes<F: Fn(ClassByte) -> bool>(
+        &self,
+        such: F,
+    ) -> impl Iterator<Item = (u8, u64)> + Clone + use<F> {
+        let mut by_class = [0; CLASSES as usize];
+        for found in self.found(such) {
+            by_class[usize::from(found.class())] += self.counts[usize::from(found.0)];
+        }
+        let counts = (0..CLASSES).zip(by_class);
         counts.filter(|&(_, points)| points > 0)
+    }
+
+    /// Each flag, with the number of points with such classification bytes that have it.
+    pub fn flags(&self, such: impl Fn(ClassByte) -> bool) -> [(Flag, u64); 3] {
+        FLAGS.map(|flag| (flag, self.points(|found| found.has(flag) && such(found))))
     }
 }

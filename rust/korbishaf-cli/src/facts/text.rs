@@ -1,5 +1,6 @@
 //! Facts as text.
 
+use super::class::Flag;
 use super::geokeys::{self, GeoKey, Value};
 use super::header::Field;
 use super::parts::Part;
@@ -60,9 +61,19 @@ pub fn records<'a>(
 pub fn classes(
     counts: impl Iterator<Item = (u8, u64)> + Clone,
 ) -> Table<impl Iterator<Item = [String; 3]> + Clone> {
-    let rows =
-        counts.map(|(class, points)| [class.to_string(), class::words(class), points.to_string()]);
+    let rows = counts.map(|(class, points)| {
+        let name = class::name(class).to_string();
+        [class.to_string(), name, points.to_string()]
+    });
     Table::new(&[Side::Right, Side::Left, Side::Right], rows)
+}
+
+/// Numbers of points by flag.
+pub fn flags(
+    counts: impl Iterator<Item = (Flag, u64)> + Clone,
+) -> Table<impl Iterator<Item = [String; 2]> + Clone> {
+    let rows = counts.map(|(flag, points)| [flag.name.to_string(), points.to_string()]);
+    Table::new(&[Side::Left, Side::Right], rows)
 }
 
 /// Numbers of points by return number. The header states them for 1 to 5.

@@ -51,14 +51,20 @@ pub enum What {
         behind: &'static str,
         all_zero: bool,
     },
-    /// Points of a class that the sheet does not keep.
-    PointsNotKept {
-        class: u8,
-        count: usize,
-        first: usize,
-    },
+    /// Points of a class that the sheet does not keep, without those that are withheld.
+    PointsNotKept { class: u8, points: Points },
+    /// Points that are withheld, of whatever class.
+    PointsWithheld { points: Points },
     /// Bytes behind the last counted point that are not all zero, as many as so many whole points and bytes.
     BehindPoints { whole: usize, over: usize },
+}
+
+/// Points that have something in common, and may have others between them.
+#[derive(Clone, Copy, Debug)]
+pub struct Points {
+    pub count: usize,
+    /// The index of the first, from 0.
+    pub first: usize,
 }
 
 /// All findings in a file that passes, by their places.

@@ -117,7 +117,7 @@ fn all_that_differs_is_explained() {
         }
     });
     // more than 32 findings in records do not come by chance
-    assert_eq!(seen.len(), 8, "{seen:?}");
+    assert_eq!(seen.len(), 9, "{seen:?}");
 }
 
 #[test]
@@ -148,6 +148,7 @@ fn kind(what: &What) -> &'static str {
         What::MoreInRecords { .. } => "more",
         What::Gap { .. } => "gap",
         What::PointsNotKept { .. } => "points",
+        What::PointsWithheld { .. } => "withheld",
         What::BehindPoints { .. } => "behind",
     }
 }

@@ -4,14 +4,14 @@
 
 use compare::spec::{FileSpec, RecordSpec, padded};
 
-/// A point record of format 0: stored X, Y, Z, class and return number.
-pub fn point([x, y, z]: [i32; 3], class: u8, return_number: u8) -> Vec<u8> {
+/// A point record of format 0: stored X, Y, Z, the byte of class and flags, and return number.
+pub fn point([x, y, z]: [i32; 3], class_byte: u8, return_number: u8) -> Vec<u8> {
     let mut point = vec![0; 20];
     for (place, stored) in [x, y, z].into_iter().enumerate() {
         point[4 * place..4 * place + 4].copy_from_slice(&stored.to_le_bytes());
     }
     point[14] = return_number;
-    point[15] = class;
+    point[15] = class_byte;
     point
 }
 
@@ -26,7 +26,8 @@ pub fn record(user_id: &[u8], record_id: u16, length: usize) -> RecordSpec {
     }
 }
 
-/// A file of format 0 with points of these classes, all at 0 and of return 1, and right about them.
+/// A file of format 0 with points of these classes, or bytes of class and flags, all at 0 and of return 1, and right
+/// about them.
 pub fn of_classes(classes: &[u8]) -> FileSpec {
     let points = classes.iter().map(|&class| point([0; 3], class, 1));
     FileSpec {

@@ -8,9 +8,11 @@ use crate::json::{Json, LazyJson};
 
 /// The plan and the warnings as one object.
 pub fn of<'a>(name: &str, plan: &'a Plan<'_>, warnings: Vec<Warning>) -> LazyJson<'a> {
+    let by_flag = ("points_by_flag", json::flags(plan.flags()));
     let mut goes_out = vec![("length", LazyJson::count(plan.length))];
-    goes_out.extend(share(plan, true));
-    let mut stays = share(plan, false);
+    goes_out.extend(share(plan, true, by_flag));
+    let withheld = ("withheld_points_by_class", json::classes(plan.withheld()));
+    let mut stays = share(plan, false, withheld);
     stays.extend(json::parts(&plan.facts));
     LazyJson::Object(vec![
         ("file", LazyJson::text(name)),
@@ -22,11 +24,16 @@ pub fn of<'a>(name: &str, plan: &'a Plan<'_>, warnings: Vec<Warning>) -> LazyJso
     ])
 }
 
-/// The points and records that go out, or that stay.
-fn share<'a>(plan: &'a Plan<'_>, going_out: bool) -> Vec<(&'static str, LazyJson<'a>)> {
+/// The points, what their flags say, and the records: those that go out, or that stay.
+fn share<'a>(
+    plan: &'a Plan<'_>,
+    going_out: bool,
+    of_flags: (&'static str, Json),
+) -> Vec<(&'static str, LazyJson<'a>)> {
     vec![
         ("points", LazyJson::number(plan.points(going_out))),
         ("points_by_class", json::classes(plan.classes(going_out))),
+        of_flags,
         ("records", json::records(plan.records(going_out))),
     ]
 }

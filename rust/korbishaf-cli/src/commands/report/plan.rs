@@ -2,6 +2,7 @@
 
 use super::name::{self, Name};
 use crate::facts::Facts;
+use crate::facts::class::{CLASSES, ClassByte, Flag, WITHHELD};
 use crate::keep_sheet::KeepSheet;
 use crate::progress::Progress;
 use crate::releasing;
@@ -18,7 +19,7 @@ pub struct Plan<'a> {
     pub keep_sheet: &'a KeepSheet,
     /// The released file's length.
     pub length: usize,
-    kept_classes: [bool; 256],
+    kept_classes: [bool; CLASSES as usize],
     kept_names: BTreeSet<Name>,
 }
 
@@ -41,9 +42,14 @@ impl<'a> Plan<'a> {
         })
     }
 
-    /// Whether points of a class go out.
+    /// Whether the sheet keeps a class of points.
     pub fn keeps_class(&self, class: u8) -> bool {
         self.kept_classes[usize::from(class)]
+    }
+
+    /// Whether points go out: those of a kept class that are not withheld.
+    fn goes_out(&self, point: ClassByte) -> bool {
+        self.keeps_class(point.class()) && !point.has(WITHHELD)
     }
 
     /// Whether a record goes out.
@@ -51,15 +57,34 @@ impl<'a> Plan<'a> {
         self.kept_names.contains(&name::of(record))
     }
 
-    /// The classes that go out, or those that stay, with their numbers of points.
+    /// The classes of the points that go out, or of those that stay since the sheet does not keep them, with the
+    /// numbers of these.
     pub fn classes(&self, going_out: bool) -> impl Iterator<Item = (u8, u64)> + Clone {
-        let classes = self.facts.tally.classes();
+        let classes = self.facts.tally.classes(|point| !point.has(WITHHELD));
         classes.filter(move |&(class, _)| self.keeps_class(class) == going_out)
+    }
+
+    /// The classes of the points that stay since they are withheld, with the numbers of these.
+    pub fn withheld(&self) -> impl Iterator<Item = (u8, u64)> + Clone {
+        let tally = &self.facts.tally;
+        tally.classes(|point| point.has(WITHHELD))
+    }
+
+    /// Each flag, with the number of points that have it and go out.
+    pub fn flags(&self) -> [(Flag, u64); 3] {
+        self.facts.tally.flags(|point| self.goes_out(point))
+    }
+
+    /// The same without the flags that none of these points has.
+    pub fn set_flags(&self) -> impl Iterator<Item = (Flag, u64)> + Clone {
+        let flags = self.flags().into_iter();
+        flags.filter(|&(_, points)| points > 0)
     }
 
     /// The number of points that go out, or that stay.
     pub fn points(&self, going_out: bool) -> u64 {
-        self.classes(going_out).map(|(_, points)| points).sum()
+        let tally = &self.facts.tally;
+        tally.points(|point| self.goes_out(point) == going_out)
     }
 
     /// The records that go out, or those that stay, with their numbers in the file, from 1.
@@ -85,9 +110,8 @@ mod tests {
     use compare::rng::{Rng, seeds};
     use compare::spec::{FileSpec, SheetSpec};
 
-    #[test]
-    fn records_and_classes_go_out_as_the_library_says() {
-        let mut seen = [0; 2];
+    /// Tries the plans of many files and sheets.
+    fn each(mut check: impl FnMut(&[u8], &Plan<'_>)) {
         for seed in seeds() {
             let mut rng = Rng::new(seed);
             for _ in 0..2000 {
@@ -97,16 +121,50 @@ mod tests {
                 );
                 let keep_sheet = KeepSheet::of_bytes("sheet.bin", bytes);
                 let plan = Plan::of(&file, &keep_sheet, &Progress::none()).unwrap();
-                for record in plan.facts.records() {
-                    let kept = record_kept(&plan.sheet, record.user_id, record.record_id);
-                    assert_eq!(plan.keeps_record(&record), kept);
-                    seen[usize::from(kept)] += 1;
-                }
-                for class in 0..=255 {
-                    assert_eq!(plan.keeps_class(class), class_kept(&plan.sheet, class));
-                }
+                check(&file, &plan);
             }
         }
+    }
+
+    #[test]
+    fn records_and_classes_go_out_as_the_library_says() {
+        let mut seen = [0; 2];
+        each(|_, plan| {
+            for record in plan.facts.records() {
+                let kept = record_kept(&plan.sheet, record.user_id, record.record_id);
+                assert_eq!(plan.keeps_record(&record), kept);
+                seen[usize::from(kept)] += 1;
+            }
+            for class in 0..CLASSES {
+                assert_eq!(plan.keeps_class(class), class_kept(&plan.sheet, class));
+            }
+        });
+        assert!(seen.iter().all(|&count| count > 500), "{seen:?}");
+    }
+
+    #[test]
+    fn the_points_that_go_out_are_those_of_a_release() {
+        let mut seen = [0; 3];
+        each(|file, plan| {
+            let out = korbishaf::release_to_vec(file, &plan.sheet).unwrap();
+            let released = Facts::of(&out, &Progress::none()).unwrap().tally;
+            assert!(plan.classes(true).eq(released.classes(|_| true)));
+            assert_eq!(plan.flags(), released.flags(|_| true));
+            // each point is in one of the lists
+            let counts = [
+                plan.classes(true).map(|(_, points)| points).sum(),
+                plan.classes(false).map(|(_, points)| points).sum(),
+                plan.withheld().map(|(_, points)| points).sum::<u64>(),
+            ];
+            let [out, not_kept, withheld] = counts;
+            assert_eq!(
+                [true, false].map(|is| plan.points(is)),
+                [out, not_kept + withheld]
+            );
+            let all = out + not_kept + withheld;
+            assert_eq!(all, u64::from(plan.facts.header.point_count));
+            seen = std::array::from_fn(|list| seen[list] + counts[list]);
+        });
         assert!(seen.iter().all(|&count| count > 500), "{seen:?}");
     }
 }

@@ -12,6 +12,9 @@ use std::io::{self, Write};
 /// How many names of a point's fields stand in a line.
 const NAMES_IN_LINE: usize = 4;
 
+/// What stands above the withheld points.
+const WITHHELD: &str = "withheld points by class, which stay whatever the sheet says";
+
 /// Writes the plan in sections, the warnings last.
 pub fn write(
     out: &mut dyn Write,
@@ -50,16 +53,19 @@ fn share(plan: &Plan<'_>, going_out: bool) -> String {
     )
 }
 
-/// Writes the points by class, and the records.
+/// Writes the points by class and what their flags say, and the records.
 fn write_share(out: &mut dyn Write, plan: &Plan<'_>, going_out: bool) -> io::Result<()> {
     let classes = text::classes(plan.classes(going_out));
+    write!(out, "{}", classes.under("points by class"))?;
+    if going_out {
+        let flags = text::flags(plan.set_flags());
+        write!(out, "{}", flags.under("points by flag"))?;
+    } else {
+        let withheld = text::classes(plan.withheld());
+        write!(out, "{}", withheld.under(WITHHELD))?;
+    }
     let records = text::records(plan.records(going_out));
-    write!(
-        out,
-        "{}{}",
-        classes.under("points by class"),
-        records.under("records")
-    )
+    write!(out, "{}", records.under("records"))
 }
 
 /// The header's fields that a release carries, and what it has of each point and record that goes out.

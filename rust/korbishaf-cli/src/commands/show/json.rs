@@ -13,7 +13,11 @@ pub fn of<'a>(name: &str, facts: &'a Facts<'_>) -> LazyJson<'a> {
     members.extend(json::parts(facts));
     members.extend([
         ("records", json::records((1..).zip(facts.records()))),
-        ("points_by_class", json::classes(facts.tally.classes())),
+        (
+            "points_by_class",
+            json::classes(facts.tally.classes(|_| true)),
+        ),
+        ("points_by_flag", json::flags(facts.tally.flags(|_| true))),
         ("points_by_return", json::returns(facts)),
         ("bounds", json::bounds(&facts.bounds())),
         ("geokeys", json::geokeys(facts)),

@@ -20,8 +20,11 @@ pub fn write(out: &mut dyn Write, name: &str, facts: &Facts<'_>) -> io::Result<(
     section("Beside header, records and points", &text::parts(facts))?;
     let records = text::records((1..).zip(facts.records()));
     section("Records", &records.or("none"))?;
-    let classes = text::classes(facts.tally.classes());
+    let classes = text::classes(facts.tally.classes(|_| true));
     section("Points by class", &classes.or("none"))?;
+    let flags = facts.tally.flags(|_| true).into_iter();
+    let flags = text::flags(flags.filter(|_| header.point_count > 0));
+    section("Points by flag", &flags.or("none"))?;
     section("Points by return number", &text::returns(facts))?;
     section("Bounds", &text::bounds(&facts.bounds()))?;
     section("GeoKeys", &text::geokeys(facts))

@@ -1,6 +1,6 @@
 //! Findings as JSON.
 
-use super::{Finding, What};
+use super::{Finding, Points, What};
 use crate::json::Json;
 use crate::shown;
 use crate::verify::records::Name;
@@ -34,6 +34,7 @@ impl What {
             What::MoreInRecords { .. } => "more_in_records",
             What::Gap { .. } => "gap",
             What::PointsNotKept { .. } => "points_not_kept",
+            What::PointsWithheld { .. } => "points_withheld",
             What::BehindPoints { .. } => "behind_points",
         }
     }
@@ -64,18 +65,21 @@ impl What {
             What::ExtraHeader { all_zero } | What::Gap { all_zero, .. } => {
                 vec![("all_zero", Json::Bool(*all_zero))]
             }
-            What::PointsNotKept {
-                class,
-                count,
-                first,
-            } => vec![
-                ("class", Json::number(*class)),
-                ("count", Json::count(*count)),
-                ("first_index", Json::count(*first)),
-            ],
+            What::PointsNotKept { class, points } => {
+                let class = ("class", Json::number(*class));
+                [class].into_iter().chain(of_points(points)).collect()
+            }
+            What::PointsWithheld { points } => of_points(points).into(),
             What::BehindPoints { whole, .. } => vec![("whole_points", Json::count(*whole))],
         }
     }
+}
+
+fn of_points(points: &Points) -> [Member; 2] {
+    [
+        ("count", Json::count(points.count)),
+        ("first_index", Json::count(points.first)),
+    ]
 }
 
 fn of_tail(field: &str, text: &[u8], record: Option<&Name>) -> Vec<Member> {

@@ -1,7 +1,8 @@
 //! Findings about the points: what is before and behind them, their classes, and what the header states of them.
 
 use super::super::parts;
-use super::{Finding, What, all_zero};
+use super::{Finding, Points, What, all_zero};
+use crate::facts::class::{CLASSES, ClassByte, WITHHELD};
 use crate::facts::stated;
 use crate::facts::tally::Tally;
 use crate::layout::{BOUNDS, BY_RETURN};
@@ -19,6 +20,7 @@ pub fn find(
         let tally = Tally::of(points, |_| {});
         found.extend(wrong(file, header, &tally));
         found.extend(not_kept(header, &tally, sheet));
+        found.extend(withheld(header, &tally));
     }
     found.extend(gap(file, header, records_end));
     found.extend(behind(file, end, usize::from(header.record_length)));
@@ -27,24 +29,34 @@ pub fn find(
 
 /// The points of each class that the sheet does not keep.
 fn not_kept(header: &Header<'_>, tally: &Tally, sheet: &Sheet) -> impl Iterator<Item = Finding> {
-    let (start, length) = (
-        header.point_offset as usize,
-        usize::from(header.record_length),
-    );
-    let classes = tally
-        .classes()
-        .filter(|&(class, _)| !class_kept(sheet, class));
-    classes.map(move |(class, points)| {
-        let (count, first) = (points as usize, tally.first(class) as usize);
-        Finding {
-            place: start + first * length,
-            length: count * length,
-            what: What::PointsNotKept {
-                class,
-                count,
-                first,
-            },
-        }
+    let classes = (0..CLASSES).filter(|&class| !class_kept(sheet, class));
+    classes.filter_map(move |class| {
+        let such = |point: ClassByte| point.class() == class && !point.has(WITHHELD);
+        let what = |points| What::PointsNotKept { class, points };
+        of_points(header, tally, such, what)
+    })
+}
+
+/// The points that no sheet keeps.
+fn withheld(header: &Header<'_>, tally: &Tally) -> Option<Finding> {
+    let such = |point: ClassByte| point.has(WITHHELD);
+    let what = |points| What::PointsWithheld { points };
+    of_points(header, tally, such, what)
+}
+
+/// What the points with such classification bytes are; nothing where there are none.
+fn of_points(
+    header: &Header<'_>,
+    tally: &Tally,
+    such: impl Fn(ClassByte) -> bool,
+    what: impl FnOnce(Points) -> What,
+) -> Option<Finding> {
+    let (count, first) = (tally.points(&such) as usize, tally.first(&such)? as usize);
+    let length = usize::from(header.record_length);
+    Some(Finding {
+        place: header.point_offset as usize + first * length,
+        length: count * length,
+        what: what(Points { count, first }),
     })
 }
 

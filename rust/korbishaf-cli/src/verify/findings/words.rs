@@ -1,6 +1,6 @@
 //! Findings in words.
 
-use super::{Finding, What};
+use super::{Finding, Points, What};
 use crate::facts::class;
 use crate::shown::{self, counted};
 use crate::verify::records::Name;
@@ -39,26 +39,39 @@ impl Finding {
                 let zero = zero(*all_zero);
                 format!("{bytes} between the {behind} and the points{zero}")
             }
-            What::PointsNotKept {
-                class,
-                count,
-                first,
-            } => points(*class, *count, *first, &bytes),
+            What::PointsNotKept { class, points } => not_kept(*class, points, &bytes),
+            What::PointsWithheld { points } => withheld(points, &bytes),
             What::BehindPoints { whole, over } => behind(*whole, *over, &bytes),
         }
     }
 }
 
-fn points(class: u8, count: usize, first: usize, bytes: &str) -> String {
-    let points = counted(count, "point");
-    let name = class::words(class);
-    let (them, which) = match count {
-        1 => ("it", "its index is"),
-        _ => ("them", "the first has index"),
+fn not_kept(class: u8, points: &Points, bytes: &str) -> String {
+    let (counted, name) = (counted(points.count, "point"), class::name(class));
+    let them = match points.count {
+        1 => "it",
+        _ => "them",
     };
-    format!(
-        "{points} of class {class} ({name}), {bytes}: the sheet does not keep {them}; {which} {first}"
-    )
+    let which = which(points);
+    format!("{counted} of class {class} ({name}), {bytes}: the sheet does not keep {them}; {which}")
+}
+
+fn withheld(points: &Points, bytes: &str) -> String {
+    let counted = counted(points.count, "withheld point");
+    let they_never_go = match points.count {
+        1 => "it never goes",
+        _ => "they never go",
+    };
+    let which = which(points);
+    format!("{counted}, {bytes}: {they_never_go} out; {which}")
+}
+
+/// Which points of the file they are.
+fn which(Points { count, first }: &Points) -> String {
+    match count {
+        1 => format!("its index is {first}"),
+        _ => format!("the first has index {first}"),
+    }
 }
 
 fn behind(whole: usize, over: usize, bytes: &str) -> String {

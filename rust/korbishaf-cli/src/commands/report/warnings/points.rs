@@ -1,4 +1,4 @@
-//! Points that stay for a flag, and all or none of them going out.
+//! Points that stay since they are withheld, and all or none of them going out.
 
 use super::super::plan::Plan;
 use super::super::warning::Warning;
@@ -8,44 +8,41 @@ use crate::shown::counted;
 
 /// The warnings.
 pub fn of(plan: &Plan<'_>) -> Vec<Warning> {
-    let staying = plan.classes(false);
-    let flagged = staying.filter(|&(class, _)| plan.keeps_class(class::without_flags(class)));
-    let mut warnings: Vec<_> = flagged.map(stays_for_a_flag).collect();
+    let of_kept_classes = plan
+        .withheld()
+        .filter(|&(class, _)| plan.keeps_class(class));
+    let mut warnings: Vec<_> = of_kept_classes.map(withheld_stays).collect();
     warnings.extend(all_or_none(plan));
     warnings
 }
 
-fn stays_for_a_flag((class, points): (u8, u64)) -> Warning {
-    let plain = class::without_flags(class);
-    let words = format!(
-        "class {class} ({}) stays, {}, though class {plain} goes out: a class is the whole byte, with its flags; \
-         the line 'class {class}' would keep it",
-        class::words(class),
-        counted(points, "point"),
-    );
+fn withheld_stays((class, points): (u8, u64)) -> Warning {
+    let (counted, name) = (counted(points, "point"), class::name(class));
+    let stay = match points {
+        1 => "is withheld and stays",
+        _ => "are withheld and stay",
+    };
+    let words = format!("{counted} of class {class} ({name}) {stay} whatever the sheet says");
     let about = vec![
         ("class", Json::number(class)),
-        ("kept_class", Json::number(plain)),
         ("points", Json::number(points)),
     ];
-    Warning::new("flags_not_kept", words, about)
+    Warning::new("withheld_stays", words, about)
 }
 
-/// The warning that all points go out, or none does. A file without points has neither.
+/// The warning that no point goes out, or all do that can: withheld ones never do. A file without points has neither.
 fn all_or_none(plan: &Plan<'_>) -> Option<Warning> {
     let (going_out, staying) = (plan.points(true), plan.points(false));
     let total = going_out + staying;
+    let only_withheld_stay = plan.classes(false).next().is_none();
+    let (kind, which) = match (going_out, staying) {
+        (0, 0) => return None,
+        (0, _) => ("no_point_goes_out", "no point"),
+        (_, 0) => ("every_point_goes_out", "every point"),
+        _ if only_withheld_stay => ("every_point_goes_out", "every point that is not withheld"),
+        _ => return None,
+    };
+    let words = format!("{which} goes out ({going_out} of {total})");
     let about = vec![("points", Json::number(total))];
-    match (going_out, staying) {
-        (0, 0) => None,
-        (_, 0) => {
-            let words = format!("every point goes out ({total} of {total})");
-            Some(Warning::new("every_point_goes_out", words, about))
-        }
-        (0, _) => {
-            let words = format!("no point goes out (0 of {total})");
-            Some(Warning::new("no_point_goes_out", words, about))
-        }
-        _ => None,
-    }
+    Some(Warning::new(kind, words, about))
 }
