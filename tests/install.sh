@@ -166,7 +166,7 @@ c_program() {
     holds "$1: static, and not shared" test "$(grep -ac 'libkorbishaf\.so' c/static)" -eq 0
     holds "$1: shared" cc "${strict[@]}" "${cflags[@]}" c/release.c -o c/shared "${libs[@]}"
     prints "$1: shared, a release" "$line" env LD_LIBRARY_PATH="$2/lib" c/shared
-    holds "$1: shared, by its soname" grep -aq 'libkorbishaf\.so\.0' c/shared
+    holds "$1: shared, by its soname" grep -aq 'libkorbishaf\.so\.1' c/shared
 }
 
 # rust_program NAME PATH: a crate outside the repository that depends on the crate at PATH releases the card's scan.
@@ -212,7 +212,7 @@ is_in() {
 # what should be there, below the prefix
 
 wanted_files=$({
-    printf '%s\n' bin/korbishaf include/korbishaf.h lib/libkorbishaf.a lib/libkorbishaf.so lib/libkorbishaf.so.0
+    printf '%s\n' bin/korbishaf include/korbishaf.h lib/libkorbishaf.a lib/libkorbishaf.so lib/libkorbishaf.so.1
     printf '%s\n' lib/pkgconfig/korbishaf.pc share/man/man1/korbishaf.1
     (cd "$root/rust/korbishaf" && find Cargo.toml build.rs src -type f) | sed 's|^|share/korbishaf/rust/korbishaf/|'
 } | LC_ALL=C sort)
@@ -224,7 +224,7 @@ working="*building the command korbishaf"
 KORBISHAF_LIB_DIR=/nowhere gives "a prefix" 0 "$(installed "$here/a prefix")" "$working" 'a prefix'
 holds "a prefix: these files and no others" test "$(files_in 'a prefix')" = "$wanted_files"
 holds "a prefix: nothing is left" is_empty "$TMPDIR"
-holds "a prefix: the link" test "$(readlink 'a prefix/lib/libkorbishaf.so')" = libkorbishaf.so.0
+holds "a prefix: the link" test "$(readlink 'a prefix/lib/libkorbishaf.so')" = libkorbishaf.so.1
 prints "the command" "$line" 'a prefix/bin/korbishaf' release "$card/in.las" "$card/sheet.bin" out.las
 holds "the command: its release" cmp out.las "$card/expected.las"
 read_flags 'a prefix/lib/pkgconfig/korbishaf.pc'
