@@ -1,6 +1,6 @@
--- What a keep sheet keeps: classes, points and records.
+-- What a keep sheet keeps: classes, points and records; and the class test.
 -- Assumes nothing.
-use Prim.Native.Nat.{ℕ, _<_}
+use Prim.Native.Nat.{ℕ, suc, _<_}
 use mathlib.Core.Bool.{Bool, _&&_, not, true, false}
 use lib.Dec.{leb, eqb}
 use Rattle.fields.specs.Lists.{anyOf}
@@ -13,8 +13,11 @@ use Rattle.fields.specs.declared.Verdict.the-variants.{Passes, Fails}
 use Rattle.sheet.specs.declared.answers.Kept.{Kept}
 use Rattle.sheet.specs.declared.answers.Kept.the-variants.{Yes, No, Refused}
 use mathlib.Core.Path.{_≡_}
-use mathlib.Core.List.{List}
+use mathlib.Core.List.{List, [], _∷_}
 use lib.ListN.{getD}
+use Rattle.sheet.specs.declared.answers.Tested.{Tested}
+use Rattle.sheet.specs.declared.answers.Tested.the-variants as tested
+use Rattle.sheet.specs.declared.lookup.Searched.{Searched}
 use Rattle.sheet.specs.declared.lookup.Sought.{Sought}
 use Rattle.sheet.specs.declared.lookup.Sought.the-variants.{Class, Record}
 
@@ -51,6 +54,31 @@ classKept sheet c = keptUnder (sheetVerdict sheet) (keepsClass sheet c)
 abbrev pub recordKept : Bytes → Bytes → ℕ → Kept
 recordKept sheet user id = keptUnder (sheetVerdict sheet) (keepsRecord sheet (cut user) id)
 
+-- ---- the class test: the lines that are looked at for a class
+
+-- 0 if something is so, else a number
+unfoldable pub unless : Bool → ℕ → ℕ
+unless true n = 0
+unless false n = n
+
+-- how many lines there are up to and with the first that passes a test, or in all if none does
+unfoldable pub upToFirst : (Bytes → Bool) → List Bytes → ℕ
+upToFirst p [] = 0
+upToFirst p (l ∷ ls) = suc (unless (p l) (upToFirst p ls))
+
+-- how many lines, of any kind, are looked at for a class
+unfoldable pub linesFor : Bytes → ℕ → ℕ
+linesFor sheet c = upToFirst (λ l. containsClass l c) (lines sheet)
+
+-- the answer under a sheet: its number where a check fails, else whether the class is held, and the lines looked at
+unfoldable pub testedUnder : Verdict → Bool → ℕ → Tested
+testedUnder (Fails n) held looked = tested.Refused n
+testedUnder Passes true looked = tested.Held looked
+testedUnder Passes false looked = tested.NotHeld looked
+
+abbrev pub classTest : Bytes → ℕ → Tested
+classTest sheet c = testedUnder (sheetVerdict sheet) (keepsClass sheet c) (linesFor sheet c)
+
 -- ---- a table by the classification byte, which a release makes once
 
 -- a point by its format and classification byte
@@ -65,9 +93,12 @@ TableOf sheet f table = (b : ℕ) → b < 256 → getD table b false ≡ keepsBy
 unfoldable pub inTable : List Bool → ℕ → Bytes → Bool
 inTable table f p = getD table (classByte f p) false
 
--- ---- what the code's search looks for; no public contract cites it
+-- ---- what the code's search looks for, and what it comes to; no public contract cites them
 
 -- whether a line keeps what is looked for, with the record's cut user ID
 unfoldable pub lineKeeps : Sought → Bytes → Bytes → Bool
 lineKeeps (Class c) user l = containsClass l c
 lineKeeps (Record id) user l = namesRecord l user id
+
+unfoldable pub searchOf : (Bytes → Bool) → List Bytes → Searched
+searchOf p ls = record { found = anyOf p ls; lines = upToFirst p ls }

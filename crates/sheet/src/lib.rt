@@ -20,7 +20,7 @@ pub(crate) const LOWEST: usize = 3;
 pub(crate) const HIGHEST: usize = 4;
 
 // A sheet has at most so many lines.
-pub(crate) const MOST_LINES: usize = 64;
+pub(crate) const MOST_LINES: u8 = 64;
 
 // A line's length by its kind, 0 for an unknown kind.
 const LENGTHS: [u8; 3] = [0, 5, 21];

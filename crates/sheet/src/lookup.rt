@@ -1,9 +1,8 @@
 // Which classes and records a keep sheet keeps, by its lines alone.
 ghost use mathlib.Core.Path.{_≡_};
-ghost use Rattle.fields.specs.Lists.{anyOf};
 ghost use Rattle.fields.specs.Text.{cut};
 ghost use Rattle.sheet.specs.Sheet.{lines};
-ghost use Rattle.sheet.specs.Keeping.{containsClass, namesRecord, keepsClass, keepsRecord, lineKeeps};
+ghost use Rattle.sheet.specs.Keeping.{containsClass, namesRecord, keepsClass, keepsRecord, lineKeeps, searchOf};
 use fields::slices;
 use fields::text;
 
@@ -11,6 +10,12 @@ use fields::text;
 enum Sought {
     Class(u8),
     Record(u16),
+}
+
+// What a search comes to: whether a line keeps what is looked for, and how many lines were looked at.
+pub(crate) struct Searched {
+    pub(crate) found: bool,
+    pub(crate) lines: u8,
 }
 
 // The places of a kind 2 line's fields.
@@ -46,36 +51,53 @@ fn line_keeps(line: &[u8], sought: Sought, user: &[u8]) -> bool
     }
 }
 
-// Whether some line of a sheet keeps what is looked for.
-fn some_line_keeps(sheet: &[u8], sought: Sought, user: &[u8]) -> bool
-    ensures { λ r. ⌜ r ≡ anyOf (lineKeeps sought (cut (now (user .entry)))) (lines (now (sheet .entry))) ⌝ }
+// Looks for a line that keeps what is looked for, from the first line on, and leaves at the first that does.
+fn search(sheet: &[u8], sought: Sought, user: &[u8]) -> Searched
+    ensures { λ r. ⌜ r ≡ searchOf (lineKeeps sought (cut (now (user .entry)))) (lines (now (sheet .entry))) ⌝ }
 {
     let mut rest = sheet;
-    let mut left = crate::MOST_LINES;
+    let mut looked = 0;
     while 0 < rest.len() {
-        if left == 0 {
-            return false;
+        if looked == crate::MOST_LINES {
+            return Searched {
+                found: false,
+                lines: looked,
+            };
         }
-        if line_keeps(crate::first_line(rest), sought, user) {
-            return true;
+        let line = crate::first_line(rest);
+        if line_keeps(line, sought, user) {
+            return Searched {
+                found: true,
+                lines: looked + 1,
+            };
         }
         let next = crate::after_line(rest);
         rest = next;
-        left -= 1;
+        looked += 1;
     }
-    false
+    Searched {
+        found: false,
+        lines: looked,
+    }
+}
+
+// Looks for a line that contains a class. Does not check the sheet.
+pub(crate) fn search_class(sheet: &[u8], class: u8) -> Searched
+    ensures { λ r. ⌜ r ≡ searchOf (λ l. containsClass l class) (lines (now (sheet .entry))) ⌝ }
+{
+    search(sheet, Sought::Class(class), b"")
 }
 
 // Whether some line contains a class. Does not check the sheet.
 pub(crate) fn holds_class(sheet: &[u8], class: u8) -> bool
     ensures { λ r. ⌜ r ≡ keepsClass (now (sheet .entry)) class ⌝ }
 {
-    some_line_keeps(sheet, Sought::Class(class), b"")
+    search_class(sheet, class).found
 }
 
 // Whether some line names a record. Does not check the sheet.
 pub fn holds_record(sheet: &[u8], user: &[u8], id: u16) -> bool
     ensures { λ r. ⌜ r ≡ keepsRecord (now (sheet .entry)) (cut (now (user .entry))) id ⌝ }
 {
-    some_line_keeps(sheet, Sought::Record(id), user)
+    search(sheet, Sought::Record(id), user).found
 }

@@ -1,28 +1,62 @@
--- One turn of a search for a line that passes a test.
+-- A search for the first line that passes a test: where it begins, one turn of it, and where it ends.
 -- Assumes nothing.
-use mathlib.Core.Path.{_≡_}
-use Prim.Native.Nat.{ℕ, _-_, _≤_, _<_}
+use mathlib.Core.Path.{_≡_, _∙_, ap}
+use Prim.Native.Nat.{ℕ, suc, _+_, _-_, _≤_, _<_}
+use native.Mathlib.Omega.{arith}
 use mathlib.Core.Bool.{Bool, true, false}
+use mathlib.Core.List.{_∷_}
 use lib.ListN.{length}
 use Rattle.fields.specs.Lists.{anyOf}
 use Rattle.fields.specs.Bytes.{Bytes}
-use Rattle.sheet.specs.Sheet.{firstLine, afterLine, linesFrom}
-use Rattle.sheet.proofs.LineLaws.{lines-more, lines-full, lines-end}
+use Rattle.sheet.specs.Sheet.{firstLine, afterLine, lines, linesFrom}
+use Rattle.sheet.specs.Keeping.{upToFirst, searchOf}
+use Rattle.sheet.proofs.LineLaws.{lines-from, lines-more, lines-full, lines-end}
+use Rattle.sheet.proofs.FirstLaws.{first-passes, first-fails, no-lines}
+
+-- n lines of a sheet were looked at, none of them passes, and the rest is behind them
+pub record NoneYet (p : Bytes → Bool) (sheet : Bytes) (n : ℕ) (rest : Bytes) : Type 0 where
+  pub few : n ≤ 64
+  pub found : anyOf p (lines sheet) ≡ anyOf p (linesFrom (64 - n) rest)
+  pub counted : upToFirst p (lines sheet) ≡ n + upToFirst p (linesFrom (64 - n) rest)
 
 module _ (p : Bytes → Bool) where
-  pub some-here : (n : ℕ) (s l : Bytes) → 0 < n → 0 < length s → l ≡ firstLine s → p l ≡ true → anyOf p (linesFrom n s) ≡ true
-  unfolding anyOf
-  some-here n s l h k e f = rw (lines-more n s h k, ← e, f)
+  module _ (sheet : Bytes) where
+    pub begin : NoneYet p sheet 0 sheet
+    begin =
+        let e : upToFirst p (lines sheet) ≡ upToFirst p (linesFrom (64 - 0) sheet) = ap (upToFirst p) (lines-from sheet) in
+        record { few = omega arith; found = ap (anyOf p) (lines-from sheet); counted = omega (arith, e) }
 
-  pub some-next : (n : ℕ) (s l r : Bytes) → 0 < n → 0 < length s → l ≡ firstLine s → p l ≡ false → r ≡ afterLine s
-      → anyOf p (linesFrom n s) ≡ anyOf p (linesFrom (n - 1) r)
-  unfolding anyOf
-  some-next n s l r h k e f q = rw (lines-more n s h k, ← q, ← e, f)
+    searched : (found : Bool) (n : ℕ) → anyOf p (lines sheet) ≡ found → upToFirst p (lines sheet) ≡ n
+        → searchOf p (lines sheet) ≡ record { found = found; lines = n }
+    unfolding searchOf
+    searched found n e f = λ i. record { found = e i; lines = f i }
 
-  pub some-full : (n : ℕ) (s : Bytes) → n ≡ 0 → anyOf p (linesFrom n s) ≡ false
-  unfolding anyOf
-  some-full n s e = rw (lines-full n s e)
+    module _ (n : ℕ) (rest : Bytes) (h : NoneYet p sheet n rest) where
+      pub full : n ≡ 64 → searchOf p (lines sheet) ≡ record { found = false; lines = n }
+      full e =
+          let left = linesFrom (64 - n) rest in
+          let z = no-lines p left (lines-full (64 - n) rest (omega arith)) in
+          searched false n (h .found ∙ z .0) (omega (arith, h .counted, z .1))
 
-  pub some-end : (n : ℕ) (s : Bytes) → length s ≤ 0 → anyOf p (linesFrom n s) ≡ false
-  unfolding anyOf
-  some-end n s k = rw (lines-end n s k)
+      pub end : length rest ≤ 0 → searchOf p (lines sheet) ≡ record { found = false; lines = n }
+      end e =
+          let z = no-lines p (linesFrom (64 - n) rest) (lines-end (64 - n) rest e) in
+          searched false n (h .found ∙ z .0) (omega (arith, h .counted, z .1))
+
+      module _ (more : n < 64) (some : 0 < length rest) (l : Bytes) (first : l ≡ firstLine rest) where
+        split : linesFrom (64 - n) rest ≡ l ∷ linesFrom (64 - (n + 1)) (afterLine rest)
+        split =
+            let e : 64 - n - 1 ≡ 64 - (n + 1) = omega arith in
+            lines-more (64 - n) rest (omega arith) some ∙ rw (first, e)
+
+        pub here : p l ≡ true → searchOf p (lines sheet) ≡ record { found = true; lines = n + 1 }
+        here e =
+            let z = first-passes p l (linesFrom (64 - (n + 1)) (afterLine rest)) e in
+            let c : upToFirst p (linesFrom (64 - n) rest) ≡ 1 = ap (upToFirst p) split ∙ z .1 in
+            searched true (n + 1) (h .found ∙ ap (anyOf p) split ∙ z .0) (omega (arith, h .counted, c))
+
+        pub next : (r : Bytes) → r ≡ afterLine rest → p l ≡ false → NoneYet p sheet (n + 1) r
+        next r q e =
+            let z = first-fails p l (linesFrom (64 - (n + 1)) (afterLine rest)) e in
+            let c : upToFirst p (linesFrom (64 - n) rest) ≡ suc (upToFirst p (linesFrom (64 - (n + 1)) (afterLine rest))) = ap (upToFirst p) split ∙ z .1 in
+            rw q record { few = omega arith; found = h .found ∙ ap (anyOf p) split ∙ z .0; counted = omega (arith, h .counted, c) }
