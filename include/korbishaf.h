@@ -140,6 +140,13 @@ typedef struct {
     uint64_t kept; /* 0 or 1 */
 } las_kept;
 
+/* Whether a line of a sheet holds a class, and how many lines were looked at for it. */
+typedef struct {
+    uint64_t number;
+    uint64_t kept;  /* 0 or 1 */
+    uint64_t lines; /* 0 to 64: those up to and with the first line that holds the class, or all if none does */
+} las_class_line;
+
 /* What a mending answers. */
 typedef struct {
     uint64_t number;
@@ -177,7 +184,7 @@ typedef struct {
 /* The functions. Any pointer may be null where the length after it is 0. */
 
 /* The number of the last change request that is in: 0 for the base, 1 with las_mend, 2 where a text's cut has no spaces
- * at its end, 3 where a class has no flags in it and withheld points are never released. */
+ * at its end, 3 where a class has no flags in it and withheld points are never released, 4 with las_class_test. */
 uint64_t las_level(void);
 
 /* 0 if the file passes, otherwise 1 to 10. */
@@ -213,6 +220,11 @@ uint64_t las_coordinate(int32_t stored, uint64_t scale, uint64_t offset);
 /* Whether a line of the sheet contains that class, from 0 to 255. It is a class by itself, with no flags in it: the
  * points of formats 0 to 3 have classes from 0 to 31, so that a line above 31 keeps none of them. Numbers: 20 to 24. */
 las_kept las_class_kept(const uint8_t *sheet, uint64_t sheet_length, uint8_t classification);
+
+/* The same question, and the number of lines that were looked at for it: the test leaves at the first line that holds
+ * the class, so that where `kept` is 1, line `lines` of the sheet answered, counted from 1. A line for records counts
+ * as any other, and never holds a class. The whole sheet is checked first. Numbers: 20 to 24. */
+las_class_line las_class_test(const uint8_t *sheet, uint64_t sheet_length, uint8_t classification);
 
 /* Whether the sheet keeps records of that user ID and record ID. The user ID has any number of bytes, and is cut as any
  * text; so are the sheet's. Numbers: 20 to 24. */

@@ -10,9 +10,12 @@ use Rattle.publicpart.specs.declared.Answer.{Answer}
 use Rattle.publicpart.specs.declared.Answer.the-variants as answer
 use Rattle.sheet.specs.declared.answers.Kept.{Kept}
 use Rattle.sheet.specs.declared.answers.Kept.the-variants.{Yes, No, Refused}
+use Rattle.sheet.specs.declared.answers.Tested.{Tested}
+use Rattle.sheet.specs.declared.answers.Tested.the-variants as tested
 use Rattle.editor.specs.declared.mend.Mended.{Mended}
 use Rattle.capi.specs.declared.answers.«las_released».{«las_released»}
 use Rattle.capi.specs.declared.answers.«las_kept».{«las_kept»}
+use Rattle.capi.specs.declared.answers.«las_class_line».{«las_class_line»}
 use Rattle.capi.specs.declared.answers.«las_mended».{«las_mended»}
 
 -- the four numbers of a release: 0, file length, kept points, kept records
@@ -25,6 +28,12 @@ unfoldable pub keptNumbers : Kept → «las_kept»
 keptNumbers Yes = record { number = 0; kept = 1 }
 keptNumbers No = record { number = 0; kept = 0 }
 keptNumbers (Refused n) = record { number = n; kept = 0 }
+
+-- 0, whether the class is held, and the lines looked at for it
+unfoldable pub testedNumbers : Tested → «las_class_line»
+testedNumbers (tested.Held n) = record { number = 0; kept = 1; lines = n }
+testedNumbers (tested.NotHeld n) = record { number = 0; kept = 0; lines = n }
+testedNumbers (tested.Refused n) = record { number = n; kept = 0; lines = 0 }
 
 -- a mark is 1 for yes
 unfoldable pub markNumbers : List Bool → List ℕ

@@ -14,13 +14,14 @@ use Rattle.reader.specs.Header.{headerRead}
 use Rattle.reader.specs.Steps.{stepOf}
 use Rattle.reader.specs.OnePoint.{pointAtOf}
 use Rattle.sheet.specs.Sheet.{sheetVerdict}
-use Rattle.sheet.specs.Keeping.{classKept, recordKept}
+use Rattle.sheet.specs.Keeping.{classKept, recordKept, classTest}
 use Rattle.geokeys.specs.GeoKeys.{lookup}
 use Rattle.publicpart.specs.Release.{release}
 use Rattle.editor.specs.Mend.{mend}
-use Rattle.capi.specs.Answers.{releasedNumbers, keptNumbers, mendedNumbers}
+use Rattle.capi.specs.Answers.{releasedNumbers, keptNumbers, testedNumbers, mendedNumbers}
 use Rattle.capi.specs.declared.answers.«las_released».{«las_released»}
 use Rattle.capi.specs.declared.answers.«las_kept».{«las_kept»}
+use Rattle.capi.specs.declared.answers.«las_class_line».{«las_class_line»}
 use Rattle.capi.specs.declared.answers.«las_mended».{«las_mended»}
 use Rattle.capi.specs.RecordAnswers.{recordNumbers, geokeyNumbers}
 use Rattle.capi.specs.declared.vlr.«las_record».{«las_record»}
@@ -31,7 +32,7 @@ use Rattle.capi.specs.HeaderAnswers.{headerNumbers}
 use Rattle.capi.specs.declared.header.«las_header».{«las_header»}
 
 unfoldable pub lasLevel : ℕ
-lasLevel = 3
+lasLevel = 4
 
 unfoldable pub lasCheckFile : Bytes → ℕ
 lasCheckFile file = numberOf (fileVerdict file)
@@ -61,6 +62,9 @@ lasCoordinate stored scale offset = coordinateBits stored (ofBits binary64 scale
 
 unfoldable pub lasClassKept : Bytes → ℕ → «las_kept»
 lasClassKept sheet class = keptNumbers (classKept sheet class)
+
+unfoldable pub lasClassTest : Bytes → ℕ → «las_class_line»
+lasClassTest sheet class = testedNumbers (classTest sheet class)
 
 unfoldable pub lasRecordKept : Bytes → Bytes → ℕ → «las_kept»
 lasRecordKept sheet user id = keptNumbers (recordKept sheet user id)

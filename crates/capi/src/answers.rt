@@ -1,7 +1,7 @@
 // Answers of the library as structs of numbers with C's layout: the refusal's number first, 0 where it is accepted.
 ghost use mathlib.Core.Path.{_≡_};
 ghost use Rattle.fields.specs.Checks.{numberOf};
-ghost use Rattle.capi.specs.Answers.{releasedNumbers, keptNumbers, markNumbers, mendedNumbers};
+ghost use Rattle.capi.specs.Answers.{releasedNumbers, keptNumbers, testedNumbers, markNumbers, mendedNumbers};
 use editor::mend;
 use fields::refusals;
 use sheet::answers;
@@ -18,6 +18,13 @@ pub struct las_released {
 pub struct las_kept {
     pub number: u64,
     pub kept: u64,
+}
+
+#[repr(C)]
+pub struct las_class_line {
+    pub number: u64,
+    pub kept: u64,
+    pub lines: u64,
 }
 
 #[repr(C)]
@@ -78,6 +85,31 @@ pub(crate) fn kept_numbers(kept: answers::Kept) -> las_kept
         answers::Kept::Yes => las_kept { number: 0, kept: 1 },
         answers::Kept::No => las_kept { number: 0, kept: 0 },
         answers::Kept::Refused(number) => las_kept { number, kept: 0 },
+    }
+}
+
+fn class_line(kept: u64, lines: u8) -> las_class_line
+    ensures { λ r. ⌜ r ≡ record { number = 0; kept = kept; lines = lines } ⌝ }
+{
+    las_class_line {
+        number: 0,
+        kept,
+        lines: lines as u64,
+    }
+}
+
+// The numbers of a class test.
+pub(crate) fn tested_numbers(tested: answers::Tested) -> las_class_line
+    ensures { λ r. ⌜ r ≡ testedNumbers tested ⌝ }
+{
+    match tested {
+        answers::Tested::Held(lines) => class_line(1, lines),
+        answers::Tested::NotHeld(lines) => class_line(0, lines),
+        answers::Tested::Refused(number) => las_class_line {
+            number,
+            kept: 0,
+            lines: 0,
+        },
     }
 }
 

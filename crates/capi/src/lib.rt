@@ -6,14 +6,16 @@ pub mod point;
 pub mod vlr;
 
 ghost use mathlib.Core.Path.{_≡_};
-ghost use Rattle.capi.specs.Interface.{lasLevel, lasCheckFile, lasCheckSheet, lasReadHeader, lasVlrStep, lasPointAt, lasDecode, lasEncode, lasCoordinate, lasClassKept, lasRecordKept, lasGeokeyFind, lasRelease, lasMend};
+ghost use Rattle.capi.specs.Interface.{lasLevel, lasCheckFile, lasCheckSheet, lasReadHeader, lasVlrStep, lasPointAt, lasDecode, lasEncode, lasCoordinate, lasClassKept, lasClassTest, lasRecordKept, lasGeokeyFind, lasRelease, lasMend};
 use crate::answers::kept_numbers;
+use crate::answers::las_class_line;
 use crate::answers::las_kept;
 use crate::answers::las_mended;
 use crate::answers::las_released;
 use crate::answers::mended_numbers;
 use crate::answers::number_of;
 use crate::answers::released_numbers;
+use crate::answers::tested_numbers;
 use crate::header::header_numbers;
 use crate::header::las_header;
 use crate::point::decoded_numbers;
@@ -35,6 +37,7 @@ use reader::point::point_at;
 use release::release;
 use scaling::doubles::coordinate_bits;
 use sheet::answers::class_kept;
+use sheet::answers::class_test;
 use sheet::answers::record_kept;
 use sheet::check_sheet;
 
@@ -43,7 +46,7 @@ use sheet::check_sheet;
 pub extern "C" fn las_level() -> u64
     ensures { λ r. ⌜ r ≡ lasLevel ⌝ }
 {
-    3
+    4
 }
 
 #[no_mangle]
@@ -116,6 +119,14 @@ pub extern "C" fn las_class_kept(sheet: &[u8], classification: u8) -> las_kept
     ensures { λ r. ⌜ r ≡ lasClassKept (now (sheet .entry)) classification ⌝ }
 {
     kept_numbers(class_kept(sheet, classification))
+}
+
+// The same, and the number of lines that were looked at for it.
+#[no_mangle]
+pub extern "C" fn las_class_test(sheet: &[u8], classification: u8) -> las_class_line
+    ensures { λ r. ⌜ r ≡ lasClassTest (now (sheet .entry)) classification ⌝ }
+{
+    tested_numbers(class_test(sheet, classification))
 }
 
 // The user ID is any number of bytes, cut as any text.
