@@ -26,7 +26,7 @@ use Rattle.reader.specs.declared.cursor.RecordPlaces.{RecordPlaces}
 use Rattle.reader.specs.declared.cursor.VlrCursor.{VlrCursor}
 use Rattle.reader.specs.OnePoint.{pointChecks, pointIf, pointAtOf}
 use Rattle.sheet.specs.Sheet.{lineChecks, afterLine, linesVerdict, sheetVerdict}
-use Rattle.sheet.specs.Keeping.{keptUnder, keepsClass, keepsRecord}
+use Rattle.sheet.specs.Keeping.{keptUnder, keepsClass, keepsRecord, linesFor, testedUnder}
 use Rattle.geokeys.specs.GeoKeys.{directoryChecks, entryChecks, doubleChecks, textChecks, answerIf, either, doubleIn, textIn, inParameters, fromEntry, fromDirectory, lookup, locationOf, payloadAt, entryOf, projectionPlace}
 use Rattle.geokeys.specs.declared.GeoKey.{GeoKey}
 use Rattle.geokeys.specs.declared.GeoKey.the-variants.{Value}
@@ -41,19 +41,22 @@ use Rattle.reader.specs.declared.point.PointAt.{PointAt}
 use Rattle.reader.specs.declared.point.PointAt.the-variants as place
 use Rattle.sheet.specs.declared.answers.Kept.{Kept}
 use Rattle.sheet.specs.declared.answers.Kept.the-variants as sheetKept
+use Rattle.sheet.specs.declared.answers.Tested.{Tested}
+use Rattle.sheet.specs.declared.answers.Tested.the-variants as tested
 use Rattle.fields.specs.Text.{cut}
 use Rattle.publicpart.specs.Public.{publicOf}
 use Rattle.publicpart.specs.Release.{Outcome, refuseOr, shortOr, accepted, roomOr, release}
 use Rattle.editor.specs.Mend.{mendBy, mend}
-use Rattle.capi.specs.Answers.{releasedNumbers, keptNumbers, markNumbers, mendedNumbers}
+use Rattle.capi.specs.Answers.{releasedNumbers, keptNumbers, testedNumbers, markNumbers, mendedNumbers}
 use Rattle.capi.specs.RecordAnswers.{foundRecord, noRecord, recordNumbers, geokeyNumbers}
 use Rattle.capi.specs.PointAnswers.{foundPoint, noPoint, pointNumbers, decodedNumbers, givenPoint}
 use Rattle.capi.specs.HeaderAnswers.{foundHeader, noHeader, headerNumbers}
-use Rattle.capi.specs.Interface.{lasCheckFile, lasCheckSheet, lasReadHeader, lasVlrStep, lasPointAt, lasDecode, lasEncode, lasClassKept, lasRecordKept, lasGeokeyFind, lasRelease, lasMend}
+use Rattle.capi.specs.Interface.{lasCheckFile, lasCheckSheet, lasReadHeader, lasVlrStep, lasPointAt, lasDecode, lasEncode, lasClassKept, lasClassTest, lasRecordKept, lasGeokeyFind, lasRelease, lasMend}
 use Rattle.theorems.specs.Terms.{needed, refusal}
 use Rattle.theorems.specs.Tables.{ByTable, linesChecks, sheetChecks, isSome, chosen, valueChecks, parameterChecks, entryTable, keyTable, directoryTable, lookupChecks, releaseChecks}
 use Rattle.theorems.specs.Demand1.{NothingChanged, ZerosBeside, EachNumber, Demand1}
 use Rattle.theorems.specs.ZeroWhereAccepted.{isReleased, isZero}
+use Rattle.theorems.proofs.sheet.TestLaws.{numbers-under}
 use Rattle.theorems.proofs.TableLaws.{joined, without-both, table-laws, follows}
 
 -- ---- a refusal changes nothing lent
@@ -366,6 +369,13 @@ kept-zeros sheetKept.Yes n e = absurd (omega arith)
 kept-zeros sheetKept.No n e = absurd (omega arith)
 kept-zeros (sheetKept.Refused m) n e = λ i. record { number = e i; kept = 0 }
 
+tested-zeros : (a : Tested) (n : ℕ) → testedNumbers a .number ≡ suc n
+    → testedNumbers a ≡ record { number = suc n; kept = 0; lines = 0 }
+unfolding testedNumbers
+tested-zeros (tested.Held m) n e = absurd (omega arith)
+tested-zeros (tested.NotHeld m) n e = absurd (omega arith)
+tested-zeros (tested.Refused m) n e = λ i. record { number = e i; kept = 0; lines = 0 }
+
 key-zeros : (a : GeoKey) (n : ℕ) → geokeyNumbers a .number ≡ suc n
     → geokeyNumbers a ≡ record { number = suc n; location = 0; value = 0; length = 0 }
 unfolding geokeyNumbers
@@ -405,7 +415,7 @@ mend-zeros Passes s n e = absurd (omega arith)
 mend-zeros (Fails m) s n e = λ i. record { number = e i; marks = replicate 12 0 }
 
 zeros-beside : ZerosBeside
-unfolding lasReadHeader lasVlrStep lasPointAt lasDecode lasClassKept lasRecordKept lasGeokeyFind lasRelease lasMend release roomOr mend
+unfolding lasReadHeader lasVlrStep lasPointAt lasDecode lasClassKept lasClassTest lasRecordKept lasGeokeyFind lasRelease lasMend release roomOr mend
 zeros-beside =
     record {
       read-header = λ file n e. header-zeros (header.headerRead file) n e;
@@ -413,6 +423,8 @@ zeros-beside =
       point-at = λ file index n e. point-zeros (pointAtOf file index) n e;
       decode = λ format len bytes n e. decoded-zeros (points.decoded format len bytes) n e;
       class-kept = λ sheet class n e. kept-zeros (keptUnder (sheetVerdict sheet) (keepsClass sheet class)) n e;
+      class-test =
+          λ sheet class n e. tested-zeros (testedUnder (sheetVerdict sheet) (keepsClass sheet class) (linesFor sheet class)) n e;
       record-kept = λ sheet user id n e. kept-zeros (keptUnder (sheetVerdict sheet) (keepsRecord sheet (cut user) id)) n e;
       geokey-find = λ file key n e. key-zeros (lookup file key) n e;
       release =
@@ -425,7 +437,7 @@ zeros-beside =
 -- ---- all of them
 
 each-number : EachNumber
-unfolding lasCheckFile lasCheckSheet lasReadHeader lasVlrStep lasPointAt lasDecode lasEncode lasClassKept lasRecordKept lasGeokeyFind lasRelease lasMend
+unfolding lasCheckFile lasCheckSheet lasReadHeader lasVlrStep lasPointAt lasDecode lasEncode lasClassKept lasClassTest lasRecordKept lasGeokeyFind lasRelease lasMend
     mend mendVerdict kept consIf header.headerRead stepOf pointAtOf points.decoded encoding.encoded points.decodeChecks encoding.encodeChecks releaseChecks Without isZero
 each-number =
     record {
@@ -438,6 +450,7 @@ each-number =
       decode = λ format len bytes. follows _ (points.decodeChecks format len bytes) (refl, tt) (decoded-number _ _);
       encode = λ format len p room. follows _ (encoding.encodeChecks format len (givenPoint p) room) (refl, (refl, tt)) (encoded-number _ _ room);
       class-kept = λ sheet class. by-sheet sheet _ (kept-number (sheetVerdict sheet) _);
+      class-test = λ sheet class. by-sheet sheet _ (numbers-under (sheetVerdict sheet) _ _ .0 ∙ kept-number (sheetVerdict sheet) _);
       record-kept = λ sheet user id. by-sheet sheet _ (kept-number (sheetVerdict sheet) _);
       geokey-find =
           λ file key.

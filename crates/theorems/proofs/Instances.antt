@@ -26,19 +26,20 @@ use Rattle.scaling.specs.Scaling.{coordinateOf, scalingOf, goodScaling}
 use Rattle.lasfile.specs.Inputs.{inputChecks}
 use Rattle.lasfile.specs.HeaderFields.{headerSize, pointOffset, recordCount, format, recordLength, pointCount}
 use Rattle.lasfile.specs.Records.{places, writtenLength, SoundRecord}
-use Rattle.sheet.specs.Sheet.{sheetVerdict, lines}
+use Rattle.sheet.specs.Sheet.{kind, sheetVerdict, lines}
 use Rattle.publicpart.specs.Public.{carriedOf, contents, publicOf}
 use Rattle.publicpart.specs.declared.Answer.the-variants.{Released}
 use Rattle.publicpart.specs.Release.{release}
-use Rattle.capi.specs.Interface.{lasCheckFile, lasCheckSheet, lasReadHeader, lasVlrStep, lasPointAt, lasDecode, lasEncode, lasClassKept, lasRecordKept, lasGeokeyFind, lasRelease, lasMend}
+use Rattle.capi.specs.Interface.{lasCheckFile, lasCheckSheet, lasReadHeader, lasVlrStep, lasPointAt, lasDecode, lasEncode, lasClassKept, lasClassTest, lasRecordKept, lasGeokeyFind, lasRelease, lasMend}
 use Rattle.reader.specs.Header as header
 use Rattle.reader.specs.Header.{headerRead}
 use Rattle.reader.specs.Steps.{recordIf, stepOf}
 use Rattle.reader.specs.OnePoint.{pointIf, pointAtOf}
-use Rattle.sheet.specs.Keeping.{keptUnder, keepsClass, keepsRecord}
+use Rattle.sheet.specs.Keeping.{keptUnder, keepsClass, keepsRecord, containsClass, unless, upToFirst, linesFor, testedUnder, classTest}
+use Rattle.sheet.specs.declared.answers.Tested.the-variants as tested
 use Rattle.fields.specs.Text.{cut}
 use Rattle.geokeys.specs.GeoKeys.{first, orLater, isProjection, projectionPlace, fromDirectory, answerIf, lookup}
-use Rattle.capi.specs.Answers.{keptNumbers, mendedNumbers}
+use Rattle.capi.specs.Answers.{keptNumbers, testedNumbers, mendedNumbers}
 use Rattle.lasfile.specs.FileChecks.{fileVerdict, mendVerdict}
 use Rattle.editor.specs.Mend.{wholeRecords, mendedCount, mendedPoints, mended, changed, marks, mendBy, mend}
 use Rattle.capi.specs.HeaderAnswers.{headerNumbers, noHeader}
@@ -55,7 +56,7 @@ use Rattle.theorems.specs.BoundsOfKept.{Binned}
 use Rattle.theorems.specs.Demand1.{NothingChanged, ZerosBeside, EachNumber}
 use Rattle.theorems.specs.Mending.{Mends, InNoField}
 use Rattle.theorems.specs.Samples.{sheet3, sheet4, sheet5, sheet6, point7, used, half, ten, file9}
-use Rattle.theorems.specs.Instances.{other9, filled, output9, OfOutput9, fields7, numbers7, oneRecord, sheetA7, sheet64, NothingChangedMet, ZerosBesideMet, EachNumberMet, ExactlyMet, ShortMet, AgainMet, RecognisedMet, CompleteMet, NeverLongerMet, BoundsOfKeptMet, SheetsMet, FilesMet, VisitsMet, RoundTripsMet, CoordinatesMet, OwnBitsMet, long7, FirstBytesMet, cut9, pointless9, MendingMet, AB, A-B, sheetSpaces7, named9, TextsMet, from, second9, first9, ClassesMet}
+use Rattle.theorems.specs.Instances.{other9, filled, output9, OfOutput9, fields7, numbers7, oneRecord, sheetA7, sheetA22, sheet64, NothingChangedMet, ZerosBesideMet, EachNumberMet, ExactlyMet, ShortMet, AgainMet, RecognisedMet, CompleteMet, NeverLongerMet, BoundsOfKeptMet, SheetsMet, ClassTestsMet, FilesMet, VisitsMet, RoundTripsMet, CoordinatesMet, OwnBitsMet, long7, FirstBytesMet, cut9, pointless9, MendingMet, AB, A-B, sheetSpaces7, named9, TextsMet, from, second9, first9, ClassesMet}
 use Rattle.theorems.proofs.FirstBytes.{first-bytes}
 use Rattle.theorems.proofs.Samples.{computed}
 use Rattle.theorems.proofs.Demand1.{demand1}
@@ -68,10 +69,12 @@ use Rattle.theorems.proofs.Files.{files}
 use Rattle.theorems.proofs.Texts.{plain, texts}
 use Rattle.theorems.specs.Texts.{Plain, IsCut}
 use Rattle.theorems.specs.Classes.{notWithheld}
+use Rattle.theorems.specs.ClassTests.{FirstThat}
 use Rattle.theorems.proofs.Classes.{classified, kept-by-class, none-withheld}
 use Rattle.theorems.proofs.Mending.{untouched, marked, right-about-points, mended-twice, keeps-release}
 use Rattle.theorems.proofs.sheet.SheetLaws.{lines-are}
 use Rattle.theorems.proofs.sheet.KeepingLaws.{kept-by-lines}
+use Rattle.theorems.proofs.sheet.TestLaws.{lines-looked-at, says-what-is-kept}
 use Rattle.theorems.proofs.reader.Visits.{stepping}
 use Rattle.theorems.proofs.points.RoundTrips.{round-trips}
 use Rattle.theorems.proofs.scaling.CoordinateTheorems.{coordinates}
@@ -230,6 +233,7 @@ pub record ComputedNumbers : Type 0 where
   pub point-at : lasPointAt file9 2 .number ≡ 11
   pub decode : lasDecode 0 20 (zeros 19) .number ≡ 12
   pub class-kept : lasClassKept sheet5 2 .number ≡ 22
+  pub class-test : lasClassTest (sheet3 ++ sheet5) 2 .number ≡ 22
   pub record-kept : lasRecordKept sheet6 [] 0 .number ≡ 20
   pub geokey-find : lasGeokeyFind file9 1024 .number ≡ 40
   pub accepts : lasRelease file9 sheet3 (used 255) .0 .number ≡ 0
@@ -237,10 +241,10 @@ pub record ComputedNumbers : Type 0 where
   pub las-mend : lasMend (zeros 227) .0 .number ≡ 2
 
 computed-numbers : ComputedNumbers
-unfolding computed encodeChecks large storedIf encoded header.headerIf headerRead stepOf recordIf pointAtOf pointIf keptUnder
+unfolding computed encodeChecks large storedIf encoded header.headerIf headerRead stepOf recordIf pointAtOf pointIf keptUnder testedUnder
     projectionPlace first orLater isProjection fromDirectory answerIf lookup
-    headerNumbers noHeader recordNumbers noRecord pointNumbers noPoint decodedNumbers keptNumbers geokeyNumbers isReleased
-    lasCheckFile lasCheckSheet lasReadHeader lasVlrStep lasPointAt lasDecode lasEncode lasClassKept lasRecordKept lasGeokeyFind lasRelease lasMend
+    headerNumbers noHeader recordNumbers noRecord pointNumbers noPoint decodedNumbers keptNumbers testedNumbers geokeyNumbers isReleased
+    lasCheckFile lasCheckSheet lasReadHeader lasVlrStep lasPointAt lasDecode lasEncode lasClassKept lasClassTest lasRecordKept lasGeokeyFind lasRelease lasMend
     mendVerdict mendBy mend mendedNumbers
 computed-numbers =
     record {
@@ -255,6 +259,7 @@ computed-numbers =
       point-at = refl;
       decode = refl;
       class-kept = refl;
+      class-test = refl;
       record-kept = refl;
       geokey-find = refl;
       accepts = refl;
@@ -284,6 +289,7 @@ zeros-beside-met =
       point-at = beside .point-at file9 2 10 (computed-numbers .point-at);
       decode = beside .decode 0 20 (zeros 19) 11 (computed-numbers .decode);
       class-kept = beside .class-kept sheet5 2 21 (computed-numbers .class-kept);
+      class-test = beside .class-test (sheet3 ++ sheet5) 2 21 (computed-numbers .class-test);
       record-kept = beside .record-kept sheet6 [] 0 19 (computed-numbers .record-kept);
       geokey-find = beside .geokey-find file9 1024 39 (computed-numbers .geokey-find);
       release = beside .release file9 sheet3 (used 254) 29 (computed-numbers .las-release) ∙ rw (needed9 .0);
@@ -303,6 +309,7 @@ each-number-met =
       decode = numbers .decode 0 20 (zeros 19) .refuses 11 .0 (computed-numbers .decode);
       encode-number = numbers .encode 0 20 numbers7 (used 19) .refuses 11 .0 (computed-numbers .las-encode);
       class-kept = numbers .class-kept sheet5 2 .refuses 21 .0 (computed-numbers .class-kept);
+      class-test = numbers .class-test (sheet3 ++ sheet5) 2 .refuses 21 .0 (computed-numbers .class-test);
       record-kept = numbers .record-kept sheet6 [] 0 .refuses 19 .0 (computed-numbers .record-kept);
       geokey-find = numbers .geokey-find file9 1024 .refuses 39 .0 (computed-numbers .geokey-find);
       release-number = numbers .release file9 sheet3 (used 254) .refuses 29 .0 (computed-numbers .las-release);
@@ -398,6 +405,62 @@ sheets-met =
       entry = kept-by-lines .entry sheetA7 (0x41 ∷ []) 7 .0 (unfold computed in refl);
       by-lines = kept-by-lines .by-lines sheet64 (sheet64 ++ 0x4B ∷ []) (unfold computed in refl) .0;
     }
+
+-- what the class test gives, by computing
+pub record ComputedTests : Type 0 where
+  pub passes : sheetVerdict sheetA22 ≡ Passes
+  pub held : classTest sheetA22 2 ≡ tested.Held 2
+  pub counted : linesFor sheetA22 2 ≡ 2
+  pub kind-2 : kind sheetA7 ≡ 2
+  pub not-held : classTest sheetA22 3 ≡ tested.NotHeld 3
+  pub three : length (lines sheetA22) ≡ 3
+  pub all-64 : classTest sheet64 3 ≡ tested.NotHeld 64
+  pub empty : classTest [] 2 ≡ tested.NotHeld 0
+  pub fault : sheetVerdict (sheet3 ++ sheet5) ≡ Fails 22
+  pub above-31 : classTest (from 40 50) 40 ≡ tested.Held 1
+  pub numbers : lasClassTest sheetA22 2 ≡ record { number = 0; kept = 1; lines = 2 }
+
+computed-tests : ComputedTests
+unfolding computed unless upToFirst linesFor testedUnder testedNumbers lasClassTest
+computed-tests =
+    record {
+      passes = refl;
+      held = refl;
+      counted = refl;
+      kind-2 = refl;
+      not-held = refl;
+      three = refl;
+      all-64 = refl;
+      empty = refl;
+      fault = refl;
+      above-31 = refl;
+      numbers = refl;
+    }
+
+pub class-tests-met : ClassTestsMet
+class-tests-met =
+    record {
+      held = lines-looked-at .held sheetA22 2 2 .1 (computed-tests .passes, first);
+      first = first;
+      some-line =
+          lines-looked-at .some-line sheetA22 2 (computed-tests .passes) .0
+          (computed-tests .held ∙ ap tested.Held (sym (computed-tests .counted)));
+      never-kind-2 = lines-looked-at .never-kind-2 sheetA7 2 (computed-tests .kind-2);
+      not-held = lines-looked-at .not-held sheetA22 3 3 .1 (computed-tests .passes, none, sym (computed-tests .three));
+      none = none;
+      all-64 = computed-tests .all-64;
+      empty = computed-tests .empty;
+      refused = lines-looked-at .refused (sheet3 ++ sheet5) 2 22 .1 (computed-tests .fault);
+      above-31 = computed-tests .above-31;
+      numbers = computed-tests .numbers;
+      counted = says-what-is-kept .numbers-count sheetA22 2 (computed-tests .passes);
+    }
+  where
+    none : All (λ l. containsClass l 3 ≡ false) (lines sheetA22)
+    none = lines-looked-at .not-held sheetA22 3 3 .0 (computed-tests .not-held) .1
+
+    first : FirstThat (λ l. containsClass l 2) (lines sheetA22) 2
+    first = lines-looked-at .held sheetA22 2 2 .0 (computed-tests .held) .1
 
 -- ---- files and their records
 

@@ -1,2 +1,3 @@
 pub mod SheetLaws
 pub mod KeepingLaws
+pub mod TestLaws

@@ -24,7 +24,7 @@ use Rattle.capi.specs.HeaderAnswers.{noHeader}
 use Rattle.capi.specs.RecordAnswers.{noRecord}
 use Rattle.capi.specs.PointAnswers.{noPoint, givenPoint}
 use Rattle.capi.specs.declared.point.«las_point».{«las_point»}
-use Rattle.capi.specs.Interface.{lasCheckFile, lasCheckSheet, lasReadHeader, lasVlrStep, lasPointAt, lasDecode, lasEncode, lasClassKept, lasRecordKept, lasGeokeyFind, lasRelease, lasMend}
+use Rattle.capi.specs.Interface.{lasCheckFile, lasCheckSheet, lasReadHeader, lasVlrStep, lasPointAt, lasDecode, lasEncode, lasClassKept, lasClassTest, lasRecordKept, lasGeokeyFind, lasRelease, lasMend}
 use Rattle.theorems.specs.Terms.{needed, refusal}
 use Rattle.theorems.specs.Tables.{Given, ByTable, sheetChecks, lookupChecks, releaseChecks}
 use Rattle.theorems.specs.ZeroWhereAccepted.{isReleased}
@@ -64,6 +64,9 @@ pub record ZerosBeside : Type 0 where
   -- where a sheet that is asked about a class does not pass
   pub class-kept : (sheet : Bytes) (class n : ℕ) → lasClassKept sheet class .number ≡ suc n
       → lasClassKept sheet class ≡ record { number = suc n; kept = 0 }
+  -- or is tested for one, with 0 lines
+  pub class-test : (sheet : Bytes) (class n : ℕ) → lasClassTest sheet class .number ≡ suc n
+      → lasClassTest sheet class ≡ record { number = suc n; kept = 0; lines = 0 }
   -- or is asked about a record
   pub record-kept : (sheet user : Bytes) (id n : ℕ) → lasRecordKept sheet user id .number ≡ suc n
       → lasRecordKept sheet user id ≡ record { number = suc n; kept = 0 }
@@ -106,6 +109,8 @@ pub record EachNumber : Type 0 where
       → ByTable (lasEncode format len p room .0) (encodeChecks format len (givenPoint p) room)
   -- 20 to 24
   pub class-kept : (sheet : Bytes) (class : ℕ) → ByTable (lasClassKept sheet class .number) (sheetChecks sheet)
+  -- 20 to 24
+  pub class-test : (sheet : Bytes) (class : ℕ) → ByTable (lasClassTest sheet class .number) (sheetChecks sheet)
   -- 20 to 24
   pub record-kept : (sheet user : Bytes) (id : ℕ) → ByTable (lasRecordKept sheet user id .number) (sheetChecks sheet)
   -- 1 to 10, then 40 to 46

@@ -29,7 +29,8 @@ use Rattle.reader.specs.Steps.{stepChecks, recordPlaces, stepOf, visited}
 use Rattle.reader.specs.declared.cursor.Step.the-variants.{Refused}
 use Rattle.reader.specs.OnePoint.{pointChecks}
 use Rattle.sheet.specs.Sheet.{kind, lowest, highest, userID, recordID, lines}
-use Rattle.sheet.specs.Keeping.{keepsClass, keepsPoint, keepsRecord}
+use Rattle.sheet.specs.Keeping.{containsClass, keepsClass, keepsPoint, keepsRecord, linesFor, classTest}
+use Rattle.sheet.specs.declared.answers.Tested.the-variants as tested
 use Rattle.lasfile.specs.HeaderFields.{format, pointCount}
 use Rattle.publicpart.specs.Public.{contents, publicOf}
 use Rattle.publicpart.specs.Release.{release}
@@ -39,7 +40,7 @@ use Rattle.capi.specs.HeaderAnswers.{noHeader}
 use Rattle.capi.specs.RecordAnswers.{noRecord}
 use Rattle.capi.specs.PointAnswers.{noPoint, givenPoint}
 use Rattle.capi.specs.declared.point.«las_point».{«las_point»}
-use Rattle.capi.specs.Interface.{lasReadHeader, lasVlrStep, lasPointAt, lasDecode, lasEncode, lasClassKept, lasRecordKept, lasGeokeyFind, lasRelease, lasMend}
+use Rattle.capi.specs.Interface.{lasReadHeader, lasVlrStep, lasPointAt, lasDecode, lasEncode, lasClassKept, lasClassTest, lasRecordKept, lasGeokeyFind, lasRelease, lasMend}
 use Rattle.tally.specs.Tally.{noTally, tallied}
 use Rattle.theorems.specs.Terms.{refusal, OfOutput}
 use Rattle.theorems.specs.Tables.{Given, sheetChecks, lookupChecks, releaseChecks}
@@ -50,6 +51,7 @@ use Rattle.theorems.specs.Coordinates.{X, axisScale, axisOffset, Times, 
 use Rattle.theorems.specs.BoundsOfKept.{Bounded, binOf, Binned}
 use Rattle.theorems.specs.Mending.{fieldIn}
 use Rattle.theorems.specs.Sheets.{line, SomeLine}
+use Rattle.theorems.specs.ClassTests.{FirstThat}
 use Rattle.theorems.specs.Visits.{cursor}
 use Rattle.theorems.specs.Samples.{sheet3, sheet4, sheet5, sheet6, point7, half, ten, used, file9}
 
@@ -89,6 +91,10 @@ oneRecord = record { user = 0x41 ∷ []; id = 7; description = []; payload = 0x0
 abbrev pub sheetA7 : Bytes
 sheetA7 = 0x4B ∷ 0x53 ∷ 0x02 ∷ 0x41 ∷ (zeros 15 ++ 0x07 ∷ 0x00 ∷ [])
 
+-- a sheet of three lines: one for that record, and two for class 2
+abbrev pub sheetA22 : Bytes
+sheetA22 = sheetA7 ++ (sheet3 ++ sheet3)
+
 -- a sheet of 64 lines
 abbrev pub sheet64 : Bytes
 sheet64 = join (replicate 64 line)
@@ -120,6 +126,8 @@ pub record ZerosBesideMet : Type 0 where
   pub decode : lasDecode 0 20 (zeros 19) ≡ noPoint 12
   -- sample P5's sheet does not pass
   pub class-kept : lasClassKept sheet5 2 ≡ record { number = 22; kept = 0 }
+  -- nor behind a line that answers
+  pub class-test : lasClassTest (sheet3 ++ sheet5) 2 ≡ record { number = 22; kept = 0; lines = 0 }
   -- nor does sample P6's
   pub record-kept : lasRecordKept sheet6 [] 0 ≡ record { number = 20; kept = 0 }
   -- sample P9's file has no directory
@@ -148,6 +156,8 @@ pub record EachNumberMet : Type 0 where
   pub encode-number : Given (encodeChecks 0 20 (givenPoint numbers7) (used 19)) 12
   -- sample P5's sheet gives 22
   pub class-kept : Given (sheetChecks sheet5) 22
+  -- behind a line that answers too
+  pub class-test : Given (sheetChecks (sheet3 ++ sheet5)) 22
   -- sample P6's sheet gives 20
   pub record-kept : Given (sheetChecks sheet6) 20
   -- a lookup in sample P9's file gives 40
@@ -357,6 +367,30 @@ pub record SheetsMet : Type 0 where
   pub entry : SomeLine (lines sheetA7) (λ l. (kind l ≡ 2) × (userID l ≡ 0x41 ∷ []) × (recordID l ≡ 7))
   -- a 65th line keeps nothing
   pub by-lines : (c : ℕ) → keepsClass sheet64 c ≡ keepsClass (sheet64 ++ 0x4B ∷ []) c
+
+pub record ClassTestsMet : Type 0 where
+  -- of a line for a record and two for class 2, the second answers for class 2
+  pub held : classTest sheetA22 2 ≡ tested.Held 2
+  -- and is the first that contains it
+  pub first : FirstThat (λ l. containsClass l 2) (lines sheetA22) 2
+  -- some line does
+  pub some-line : SomeLine (lines sheetA22) (λ l. containsClass l 2 ≡ true)
+  -- the line for the record does not
+  pub never-kind-2 : containsClass sheetA7 2 ≡ false
+  -- none answers for class 3, and all three are looked at
+  pub not-held : classTest sheetA22 3 ≡ tested.NotHeld 3
+  pub none : All (λ l. containsClass l 3 ≡ false) (lines sheetA22)
+  -- and so with 64
+  pub all-64 : classTest sheet64 3 ≡ tested.NotHeld 64
+  -- and with the empty sheet
+  pub empty : classTest [] 2 ≡ tested.NotHeld 0
+  -- a fault behind the line that answers is given
+  pub refused : classTest (sheet3 ++ sheet5) 2 ≡ tested.Refused 22
+  -- a line for 40 to 50 holds 40, which no point has
+  pub above-31 : classTest (from 40 50) 40 ≡ tested.Held 1
+  -- in other languages: the number, 1 for yes, and two lines
+  pub numbers : lasClassTest sheetA22 2 ≡ record { number = 0; kept = 1; lines = 2 }
+  pub counted : lasClassTest sheetA22 2 .lines ≡ linesFor sheetA22 2
 
 pub record FilesMet : Type 0 where
   -- sample P9's file is as `Passed` says

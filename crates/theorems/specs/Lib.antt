@@ -9,6 +9,7 @@ pub mod Coordinates
 pub mod BoundsOfKept
 pub mod Sheets
 pub mod Classes
+pub mod ClassTests
 pub mod Files
 pub mod Mending
 pub mod Visits

@@ -31,7 +31,7 @@ use Rattle.publicpart.specs.declared.Answer.the-variants as answer
 use Rattle.editor.specs.Mend.{mend}
 use Rattle.capi.specs.PointAnswers.{givenPoint}
 use Rattle.capi.specs.declared.point.«las_point».{«las_point»}
-use Rattle.capi.specs.Interface.{lasCheckFile, lasCheckSheet, lasReadHeader, lasVlrStep, lasPointAt, lasDecode, lasEncode, lasClassKept, lasRecordKept, lasGeokeyFind, lasRelease, lasMend}
+use Rattle.capi.specs.Interface.{lasCheckFile, lasCheckSheet, lasReadHeader, lasVlrStep, lasPointAt, lasDecode, lasEncode, lasClassKept, lasClassTest, lasRecordKept, lasGeokeyFind, lasRelease, lasMend}
 
 -- ---- which answers are accepted
 
@@ -92,6 +92,9 @@ pub record ZeroWhereAccepted : Type 0 where
   -- a sheet that is asked about a class passes
   pub class-kept : (sheet : Bytes) (class : ℕ)
       → isZero (lasClassKept sheet class .number) ≡ isPassing (sheetVerdict sheet)
+  -- a sheet that is tested for a class passes
+  pub class-test : (sheet : Bytes) (class : ℕ)
+      → isZero (lasClassTest sheet class .number) ≡ isPassing (sheetVerdict sheet)
   -- a sheet that is asked about a record passes
   pub record-kept : (sheet user : Bytes) (id : ℕ)
       → isZero (lasRecordKept sheet user id .number) ≡ isPassing (sheetVerdict sheet)

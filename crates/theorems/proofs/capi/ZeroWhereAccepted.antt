@@ -1,6 +1,6 @@
 -- An answer's number is 0 exactly where it is accepted.
 -- Assumes nothing.
-use mathlib.Core.Path.{_≡_, refl}
+use mathlib.Core.Path.{_≡_, refl, ap, _∙_}
 use Prim.Native.Nat.{ℕ}
 use mathlib.Core.Bool.{Bool, true, false}
 use mathlib.Core.Option.{Option, none, some}
@@ -30,8 +30,9 @@ use Rattle.capi.specs.Answers.{releasedNumbers, keptNumbers, mendedNumbers}
 use Rattle.capi.specs.RecordAnswers.{foundRecord, noRecord, recordNumbers, geokeyNumbers}
 use Rattle.capi.specs.PointAnswers.{foundPoint, noPoint, pointNumbers, decodedNumbers}
 use Rattle.capi.specs.HeaderAnswers.{foundHeader, noHeader, headerNumbers}
-use Rattle.capi.specs.Interface.{lasCheckFile, lasCheckSheet, lasReadHeader, lasVlrStep, lasPointAt, lasDecode, lasEncode, lasClassKept, lasRecordKept, lasGeokeyFind, lasRelease, lasMend}
+use Rattle.capi.specs.Interface.{lasCheckFile, lasCheckSheet, lasReadHeader, lasVlrStep, lasPointAt, lasDecode, lasEncode, lasClassKept, lasClassTest, lasRecordKept, lasGeokeyFind, lasRelease, lasMend}
 use Rattle.theorems.specs.ZeroWhereAccepted.{isPassing, hasFields, hasRecord, hasPoint, isDecoded, isFound, isReleased, isZero, ZeroWhereAccepted}
+use Rattle.theorems.proofs.sheet.TestLaws.{numbers-under}
 use Rattle.theorems.proofs.capi.NumberLaws.{Numbered, first-numbered, then-numbered, file-numbered, mend-numbered, sheet-numbered}
 
 -- ---- an answer that a verdict decides
@@ -149,7 +150,7 @@ mend-by (Fails n) s e = e
 -- ---- all of them
 
 pub zero-where-accepted : ZeroWhereAccepted
-unfolding lasCheckFile lasCheckSheet lasReadHeader lasVlrStep lasPointAt lasDecode lasEncode lasClassKept lasRecordKept lasGeokeyFind lasRelease lasMend mend
+unfolding lasCheckFile lasCheckSheet lasReadHeader lasVlrStep lasPointAt lasDecode lasEncode lasClassKept lasClassTest lasRecordKept lasGeokeyFind lasRelease lasMend mend
     header.headerRead stepOf pointAtOf points.decoded encoding.encoded points.decodeChecks encoding.encodeChecks Numbered NumberedKey NumberedOutcome Without isZero
 zero-where-accepted =
     record {
@@ -165,6 +166,8 @@ zero-where-accepted =
       decode = λ format len bytes. decoded-if _ _ (first-numbered (points.decodeChecks format len bytes) (refl, tt));
       encode = λ format len p room. stored-if _ _ room (first-numbered (encoding.encodeChecks format len _ room) (refl, (refl, tt)));
       class-kept = λ sheet class. kept-if (sheetVerdict sheet) _ (sheet-numbered sheet);
+      class-test =
+          λ sheet class. ap isZero (numbers-under (sheetVerdict sheet) _ _ .0) ∙ kept-if (sheetVerdict sheet) _ (sheet-numbered sheet);
       record-kept = λ sheet user id. kept-if (sheetVerdict sheet) _ (sheet-numbered sheet);
       geokey-find = found;
       release = λ file sheet out. release-numbered sheet file out;

@@ -72,7 +72,7 @@ module _ (p : Bytes → Bool) (P : Bytes → Type 0) (says : (l : Bytes) → (p 
   line-some l (x ∷ xs) (List·Memᴰ·head q) e = rw (← q, e)
   line-some l (x ∷ xs) (List·Memᴰ·tail m) e = rw (line-some l xs m e) (or-true (p x))
 
-  some-says : (ls : List Bytes) → (anyOf p ls ≡ true) ↔ SomeLine ls P
+  pub some-says : (ls : List Bytes) → (anyOf p ls ≡ true) ↔ SomeLine ls P
   some-says ls = (some-line ls, λ w. line-some (w .line) ls (w .among) (says (w .line) .1 (w .so)))
 
 keeps-class : (sheet : Bytes) (c : ℕ)
