@@ -6,6 +6,7 @@
 //!
 //! * [`LasFile`] is a file that passes the file checks; [`check_file`] only asks.
 //! * [`Sheet`] is a keep sheet that passes; [`check_sheet`] only asks.
+//! * [`class_test()`] looks for the first line of a sheet that holds a class.
 //! * [`release()`] writes what a sheet leaves of a file.
 //! * [`mend()`] sets right the counts and bounds of a header that lies.
 //! * [`Point`] is one point's fields, with [`decode`] and [`encode`].
@@ -13,6 +14,7 @@
 //! A [`Refusal`] says why something was not done and has the specification's number.
 
 mod bytes;
+mod class_test;
 mod file;
 mod format;
 mod geokey;
@@ -30,6 +32,7 @@ mod vlr;
 mod sample;
 
 pub use bytes::cut;
+pub use class_test::{ClassLine, class_test};
 pub use file::{LasFile, check_file, read_header};
 pub use format::PointFormat;
 pub use geokey::GeoValue;

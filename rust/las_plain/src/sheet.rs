@@ -64,7 +64,7 @@ pub fn record_kept(sheet: &[u8], user_id: &[u8], record_id: u16) -> Result<bool,
 
 /// What one line keeps.
 #[derive(Debug, Clone, Copy, PartialEq, Eq)]
-enum Line<'a> {
+pub enum Line<'a> {
     /// Kind 1: points of these classes, unless they are withheld.
     Classes { lowest: u8, highest: u8 },
     /// Kind 2: records with this cut user ID and record ID.
@@ -101,16 +101,24 @@ impl<'a> Line<'a> {
         };
         Ok((line, rest))
     }
+
+    /// Whether the line holds a class, its lowest and highest included; a line for records holds none.
+    pub fn holds_class(&self, class: u8) -> bool {
+        match *self {
+            Self::Classes { lowest, highest } => lowest <= class && class <= highest,
+            Self::Record { .. } => false,
+        }
+    }
 }
 
 /// The lines of a sheet in order; nothing follows a fault.
-struct Lines<'a> {
+pub struct Lines<'a> {
     rest: &'a [u8],
     read: usize,
 }
 
 impl<'a> Lines<'a> {
-    fn new(rest: &'a [u8]) -> Self {
+    pub fn new(rest: &'a [u8]) -> Self {
         Self { rest, read: 0 }
     }
 
