@@ -6,6 +6,7 @@
 
 use crate::error::{Error, passes, passes_or_needs};
 use crate::release::Released;
+use crate::sheet::ClassLine;
 use crate::{narrow, sys};
 
 /// Checks a keep sheet. An empty sheet is good and keeps nothing.
@@ -34,6 +35,32 @@ pub fn check_sheet(sheet: &[u8]) -> Result<(), Error> {
 pub fn class_kept(sheet: &[u8], class: u8) -> Result<bool, Error> {
     // SAFETY: pointer and length are those of one slice.
     kept(unsafe { sys::las_class_kept(sheet.as_ptr(), sheet.len() as u64, class) })
+}
+
+/// Whether a line of a sheet holds a class, from 0 to 255, and how many lines were looked at for it: where `kept` is
+/// true, line number `lines` answered, counted from 1. The class has no [flags](crate#classes-and-flags) in it.
+///
+/// # Errors
+///
+/// 20 to 24 where the sheet does not pass. The whole sheet is checked first, so that a fault behind the line that would
+/// answer is given too.
+///
+/// ```
+/// use korbishaf::{ClassLine, bytes::class_test};
+///
+/// let sheet = b"KS\x01\x02\x02KS\x01\x05\x03";
+/// assert_eq!(class_test(&sheet[..5], 2)?, ClassLine { kept: true, lines: 1 });
+/// assert_eq!(class_test(sheet, 2).unwrap_err().number(), 23);
+/// # Ok::<(), korbishaf::Error>(())
+/// ```
+pub fn class_test(sheet: &[u8], class: u8) -> Result<ClassLine, Error> {
+    // SAFETY: pointer and length are those of one slice.
+    let answer = unsafe { sys::las_class_test(sheet.as_ptr(), sheet.len() as u64, class) };
+    passes(answer.number)?;
+    Ok(ClassLine {
+        kept: answer.kept != 0,
+        lines: narrow(answer.lines),
+    })
 }
 
 /// Whether a sheet keeps the variable length records of a user ID and a record ID. The user ID has any number of

@@ -97,14 +97,15 @@ pub use points::{PlacedPoint, Point, Points, coordinate, decode, encode, point_a
 pub use records::{Record, Records, Step, records, step};
 pub use release::{Released, release, release_to_vec};
 pub use sheet::{
-    Line, Lines, LongUserId, Sheet, SheetError, TextError, UserId, class_kept, class_name,
-    record_kept,
+    ClassLine, Line, Lines, LongUserId, Sheet, SheetError, TextError, UserId, class_kept,
+    class_name, class_number, class_test, record_kept,
 };
 
 use text_field::cut;
 
 /// The number of the last change request that is in the library: 0 for the base, 1 with [`mend`], 2 where texts are cut
-/// before the spaces at their end, 3 where a class has no [flags](crate#classes-and-flags) in it.
+/// before the spaces at their end, 3 where a class has no [flags](crate#classes-and-flags) in it, 4 with
+/// [`class_test`].
 #[must_use]
 pub fn level() -> u64 {
     sys::las_level()

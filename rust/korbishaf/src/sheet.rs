@@ -7,7 +7,7 @@ mod user_id;
 
 pub use line::{Line, Lines};
 pub use read::SheetError;
-pub use text::{TextError, class_name};
+pub use text::{TextError, class_name, class_number};
 pub use user_id::{LongUserId, UserId};
 
 use crate::bytes;
@@ -189,6 +189,36 @@ impl TryFrom<Vec<u8>> for Sheet {
 #[must_use]
 pub fn class_kept(sheet: &Sheet, class: u8) -> bool {
     bytes::class_kept(sheet.as_bytes(), class).expect(PASSED)
+}
+
+/// Whether a line of a sheet holds a class, and how many lines of any kind were looked at for it.
+#[derive(Clone, Copy, Debug, PartialEq, Eq, Hash)]
+pub struct ClassLine {
+    /// Whether a line holds the class. Line number `lines` answered then, counted from 1.
+    pub kept: bool,
+    /// The lines that were looked at: those up to and with the first that holds the class, or all if none does.
+    pub lines: usize,
+}
+
+/// Whether a line of a sheet holds a class, from 0 to 255, and how many lines were looked at for it.
+///
+/// The test leaves at the first line that holds the class: where `kept` is true, line number `lines` answered,
+/// counted from 1. Lines for records count as any others, and hold no class. For the rest it is [`class_kept`].
+///
+/// ```
+/// use korbishaf::{ClassLine, Line, Sheet, class_test};
+///
+/// let sheet = Sheet::from_text("record yard 7\nclass 2-5\nclass building\nclass 5")?;
+/// let answer = class_test(&sheet, 5);
+/// assert_eq!(answer, ClassLine { kept: true, lines: 2 });
+/// assert_eq!(sheet.lines().nth(answer.lines - 1), Some(Line::classes(2, 5)));
+///
+/// assert_eq!(class_test(&sheet, 9), ClassLine { kept: false, lines: 4 });
+/// # Ok::<(), korbishaf::TextError>(())
+/// ```
+#[must_use]
+pub fn class_test(sheet: &Sheet, class: u8) -> ClassLine {
+    bytes::class_test(sheet.as_bytes(), class).expect(PASSED)
 }
 
 /// Whether a sheet keeps the variable length records of a user ID and a record ID. The user ID has any number of

@@ -124,6 +124,18 @@ pub struct las_kept {
     pub kept: u64,
 }
 
+/// Whether a line of a sheet holds a class, and how many lines were looked at for it.
+#[repr(C)]
+#[derive(Clone, Copy, Debug, Default, PartialEq, Eq)]
+pub struct las_class_line {
+    /// 0, or why the sheet does not pass.
+    pub number: u64,
+    /// 1 for kept, otherwise 0.
+    pub kept: u64,
+    /// The lines up to and with the first that holds the class, or all if none does.
+    pub lines: u64,
+}
+
 /// What a mending answers.
 #[repr(C)]
 #[derive(Clone, Copy, Debug, Default, PartialEq, Eq)]
@@ -189,7 +201,8 @@ pub struct las_header {
 
 unsafe extern "C" {
     /// The number of the last change request that is in: 0 for the base, 1 with `las_mend`, 2 where a text's cut has
-    /// no spaces at its end, 3 where a class has no flags in it and withheld points are never released.
+    /// no spaces at its end, 3 where a class has no flags in it and withheld points are never released, 4 with
+    /// `las_class_test`.
     pub safe fn las_level() -> u64;
 
     /// 0 if the file passes, otherwise 1 to 10.
@@ -230,6 +243,13 @@ unsafe extern "C" {
 
     /// Whether a line of the sheet contains that class, which has no flags in it. Numbers: 20 to 24.
     pub fn las_class_kept(sheet: *const u8, sheet_length: u64, classification: u8) -> las_kept;
+
+    /// Whether a line of the sheet holds that class, and how many lines were looked at for it. Numbers: 20 to 24.
+    pub fn las_class_test(
+        sheet: *const u8,
+        sheet_length: u64,
+        classification: u8,
+    ) -> las_class_line;
 
     /// Whether the sheet keeps records of that user ID and record ID. Numbers: 20 to 24.
     pub fn las_record_kept(
@@ -276,6 +296,7 @@ mod tests {
         assert_eq!(size_of::<las_point>(), 56);
         assert_eq!(size_of::<las_geokey>(), 32);
         assert_eq!(size_of::<las_kept>(), 16);
+        assert_eq!(size_of::<las_class_line>(), 24);
         assert_eq!(size_of::<las_header>(), 288);
         assert_eq!(size_of::<las_mended>(), 104);
     }
@@ -287,6 +308,7 @@ mod tests {
         assert_eq!(align_of::<las_point>(), 8);
         assert_eq!(align_of::<las_geokey>(), 8);
         assert_eq!(align_of::<las_kept>(), 8);
+        assert_eq!(align_of::<las_class_line>(), 8);
         assert_eq!(align_of::<las_header>(), 8);
         assert_eq!(align_of::<las_mended>(), 8);
     }
@@ -301,6 +323,7 @@ mod tests {
             scan_direction 50, edge 51, scan_angle 52, synthetic 53, key_point 54, withheld 55);
         lie_at!(las_geokey: number 0, location 8, value 16, length 24);
         lie_at!(las_kept: number 0, kept 8);
+        lie_at!(las_class_line: number 0, kept 8, lines 16);
         lie_at!(las_mended: number 0, marks 8);
         lie_at!(las_header: number 0, file_source_id 8, global_encoding 16, guid_1 24, guid_2 32, guid_3 40,
             guid_4 48, major 56, minor 64, system_length 72, software_length 80, day 88, year 96,

@@ -47,6 +47,9 @@ fn try_sheet(file: &[u8], sheet: &[u8]) {
         for class in 0..=255 {
             let kept = bytes::class_kept(sheet, class).unwrap();
             assert_eq!(korbishaf::class_kept(made, class), kept);
+            let answer = bytes::class_test(sheet, class).unwrap();
+            assert_eq!(korbishaf::class_test(made, class), answer);
+            assert_eq!(answer.kept, kept);
         }
         let kept = bytes::record_kept(sheet, b"LASF_Projection", 34735).unwrap();
         assert_eq!(
@@ -91,6 +94,7 @@ fn try_all(file: &[u8], sheet: &[u8]) -> (u64, u64) {
     let of_file = number(&korbishaf::check_file(file));
     let of_sheet = number(&bytes::check_sheet(sheet));
     assert_eq!(number(&bytes::class_kept(sheet, 2)), of_sheet);
+    assert_eq!(number(&bytes::class_test(sheet, 2)), of_sheet);
     assert_eq!(
         number(&bytes::record_kept(sheet, b"LASF_Projection", 34735)),
         of_sheet

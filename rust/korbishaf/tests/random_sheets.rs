@@ -1,6 +1,6 @@
 //! Random sheets and texts, from a fixed seed: round trips, and bytes of any kind, none of which panics.
 
-use korbishaf::{Line, Sheet, SheetError, bytes, class_kept, record_kept};
+use korbishaf::{ClassLine, Line, Sheet, SheetError, bytes, class_kept, class_test, record_kept};
 
 /// How many inputs each test tries.
 const INPUTS: usize = 100_000;
@@ -127,6 +127,36 @@ fn bytes_to_text_to_bytes_keep_the_same() {
             }
         }
     }
+}
+
+/// The answer for a class, worked out from the lines.
+fn class_line(sheet: &Sheet, class: u8) -> ClassLine {
+    let place = sheet.lines().position(|line| match line {
+        Line::Classes { lowest, highest } => (lowest..=highest).contains(&class),
+        _ => false,
+    });
+    ClassLine {
+        kept: place.is_some(),
+        lines: place.map_or(sheet.lines().count(), |place| place + 1),
+    }
+}
+
+#[test]
+fn the_first_line_that_holds_a_class_answers() {
+    let mut random = Random(6);
+    // how often no line answers, the first does, and a later one does
+    let mut seen = [0; 3];
+    for _ in 0..INPUTS / 10 {
+        let sheet = Sheet::from_lines(random.lines()).unwrap();
+        for class in 0..=255 {
+            let answer = class_test(&sheet, class);
+            assert_eq!(answer, class_line(&sheet, class), "{class}: {sheet}");
+            assert_eq!(bytes::class_test(sheet.as_bytes(), class), Ok(answer));
+            let later = usize::from(answer.lines > 1);
+            seen[usize::from(answer.kept) * (1 + later)] += 1;
+        }
+    }
+    assert!(seen.iter().all(|&count| count > INPUTS), "{seen:?}");
 }
 
 /// A sheet that was read gives the same lines and the same text again; one that was not says where.

@@ -1,6 +1,6 @@
 //! The samples of the specification and the sample cards, through the wrappers.
 
-use korbishaf::{GeoKeyValue, Guid, PlacedPoint, Point, Record, Released, Sheet, bytes};
+use korbishaf::{ClassLine, GeoKeyValue, Guid, PlacedPoint, Point, Record, Released, Sheet, bytes};
 use std::fs;
 use std::path::Path;
 
@@ -107,7 +107,7 @@ fn number<T: std::fmt::Debug>(answer: Result<T, korbishaf::Error>) -> u64 {
 
 #[test]
 fn level() {
-    assert_eq!(korbishaf::level(), 3);
+    assert_eq!(korbishaf::level(), 4);
 }
 
 #[test]
@@ -162,12 +162,57 @@ fn sheets_p3_to_p6() {
         assert_eq!(number(Sheet::from_bytes(refused)), wanted);
         assert_eq!(number(bytes::check_sheet(refused)), wanted);
         assert_eq!(number(bytes::class_kept(refused, 2)), wanted);
+        assert_eq!(number(bytes::class_test(refused, 2)), wanted);
         assert_eq!(number(bytes::record_kept(refused, b"", 2)), wanted);
         assert_eq!(number(bytes::release_to_vec(&p9(), refused)), wanted);
         assert_eq!(number(bytes::release(&p9(), refused, &mut [])), wanted);
         assert_eq!(number(bytes::release(&[], refused, &mut [])), 1);
     }
     assert_eq!(bytes::check_sheet(&CLASS_2.repeat(64)), Ok(()));
+}
+
+/// The lines that are looked at for a class, under sheets of the bytes of P3 and of other lines.
+#[test]
+fn class_lines() {
+    let (wide, record) = (
+        b"KS\x01\x14\xC8",
+        b"KS\x02yard\0\0\0\0\0\0\0\0\0\0\0\0\x07\x00",
+    );
+    for (whole, class, kept, lines) in [
+        (&[][..], 2, false, 0),
+        (&CLASS_2, 2, true, 1),
+        (&CLASS_2, 1, false, 1),
+        (&CLASS_2, 3, false, 1),
+        (&CLASS_2, 66, false, 1),
+        (&CLASS_2.repeat(64), 2, true, 1),
+        (&CLASS_2.repeat(64), 0, false, 64),
+        (&[&record.repeat(63)[..], &CLASS_2].concat(), 2, true, 64),
+        (&[&record[..], &CLASS_2, wide].concat(), 2, true, 2),
+        (&[&record[..], &CLASS_2, wide].concat(), 7, false, 3),
+        (&[&CLASS_2[..], record, wide, wide].concat(), 20, true, 3),
+        (&[&CLASS_2[..], record, wide, wide].concat(), 200, true, 3),
+        (&[&CLASS_2[..], record, wide, wide].concat(), 201, false, 4),
+    ] {
+        let wanted = ClassLine { kept, lines };
+        assert_eq!(bytes::class_test(whole, class), Ok(wanted));
+        assert_eq!(korbishaf::class_test(&sheet(whole), class), wanted);
+    }
+}
+
+#[test]
+fn a_fault_behind_the_line_that_answers_is_given() {
+    for (fault, wanted) in [
+        (&[0x4B, 0x54, 1][..], 20),
+        (&[0x4B, 0x53, 3, 2, 2], 21),
+        (&[0x4B, 0x53, 1, 2], 22),
+        (&[0x4B, 0x53, 1, 3, 2], 23),
+        (&CLASS_2.repeat(64), 24),
+    ] {
+        let whole = [&CLASS_2, fault].concat();
+        for class in [2, 3] {
+            assert_eq!(number(bytes::class_test(&whole, class)), wanted);
+        }
+    }
 }
 
 #[test]

@@ -1,6 +1,6 @@
 //! The text form of a sheet: what is read and what is written.
 
-use korbishaf::{Line, Sheet};
+use korbishaf::{Line, Sheet, class_number};
 
 /// The lines of a good text.
 fn lines(text: impl AsRef<[u8]>) -> Vec<Line> {
@@ -75,9 +75,18 @@ fn every_class_name() {
         ] {
             let text = format!("class {name}");
             assert_eq!(lines(&text), [Line::class(class)], "{text}");
+            assert_eq!(class_number(name), Ok(class));
         }
         let written = Sheet::from_text(format!("class {name} # by name")).unwrap();
         assert_eq!(written.to_text(), format!("class {class}\n"));
+    }
+}
+
+#[test]
+fn every_class_by_its_number() {
+    for class in 0..=255 {
+        assert_eq!(class_number(class.to_string()), Ok(class));
+        assert_eq!(class_number(format!("00{class}")), Ok(class));
     }
 }
 

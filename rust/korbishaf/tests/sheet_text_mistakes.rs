@@ -1,6 +1,6 @@
 //! The place and the words of each mistake in the text of a sheet.
 
-use korbishaf::{Sheet, TextError};
+use korbishaf::{Sheet, TextError, class_number};
 
 /// Asserts the place and the words of a text's first mistake.
 fn mistaken(text: impl AsRef<[u8]>, line: usize, column: usize, words: &str) {
@@ -108,6 +108,29 @@ fn ranges() {
             ("class 3 4", 9, "'4' (a range has no blanks, as in '3-5')"),
         ],
     );
+}
+
+/// A word that is asked for by itself is one class, with nothing around it.
+#[test]
+fn a_class_by_itself() {
+    for (word, words) in [
+        ("", "nothing"),
+        ("256", "'256'"),
+        ("65536", "'65536'"),
+        ("-1", "'-1'"),
+        ("+1", "'+1'"),
+        ("2 ", "'2 '"),
+        ("2#", "'2#'"),
+        ("3-5", "'3-5'"),
+        ("class", "'class'"),
+        ("gruond", "'gruond'; did you mean 'ground'?"),
+        ("\u{fc}", r"'\xC3\xBC'"),
+    ] {
+        let mistake = class_number(word).unwrap_err();
+        let wanted = format!("expected a class from 0 to 255 or a class name, found {words}");
+        assert_eq!(mistake.words(), wanted);
+        assert_eq!((mistake.line(), mistake.column()), (1, 1));
+    }
 }
 
 #[test]

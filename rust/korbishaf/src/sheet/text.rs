@@ -18,6 +18,9 @@ use near::did_you_mean;
 /// What a class may be.
 const A_CLASS: &str = "expected a class from 0 to 255, 'lowest-highest' or a class name";
 
+/// What a class that stands by itself may be.
+const ONE_CLASS: &str = "expected a class from 0 to 255 or a class name";
+
 /// What the other end of a range may be.
 const A_HIGHEST: &str = "expected the highest class behind the '-', from 0 to 255";
 
@@ -47,6 +50,30 @@ pub(super) fn read(text: &[u8]) -> Result<Vec<Line>, TextError> {
         lines.push(read_line(&mut cursor, keyword)?);
     }
     Ok(lines)
+}
+
+/// The class that a word stands for: a number from 0 to 255 or a name, as one behind `class` in the text of a sheet.
+///
+/// # Errors
+///
+/// A [`TextError`] that says what would be right. Its place is the front of the word.
+///
+/// ```
+/// use korbishaf::class_number;
+///
+/// assert_eq!(class_number("66")?, 66);
+/// assert_eq!(class_number("Low_Vegetation")?, 3);
+/// let words = "expected a class from 0 to 255 or a class name, found 'gruond'; did you mean 'ground'?";
+/// assert_eq!(class_number("gruond").unwrap_err().words(), words);
+/// # Ok::<(), korbishaf::TextError>(())
+/// ```
+pub fn class_number(word: impl AsRef<[u8]>) -> Result<u8, TextError> {
+    let word = word.as_ref();
+    let class = class_names::class_named(word).or_else(|| class_in_digits(word));
+    class.ok_or_else(|| {
+        let guess = did_you_mean(word, class_names::all());
+        TextError::new(1, 1, format!("{ONE_CLASS}, {}{guess}", found(word)))
+    })
 }
 
 /// The line that a keyword begins.
@@ -100,8 +127,7 @@ fn read_classes(cursor: &mut Cursor<'_>) -> Result<Line, TextError> {
 }
 
 fn read_class(cursor: &Cursor<'_>, word: Word<'_>, expected: &str) -> Result<u8, TextError> {
-    let class = number(word.bytes).and_then(|class| class.try_into().ok());
-    class.ok_or_else(|| {
+    class_in_digits(word.bytes).ok_or_else(|| {
         let is_name = class_names::class_named(word.bytes).is_some();
         let hint = if is_name { NUMBERS } else { "" };
         cursor.error(word.at, format!("{expected}, {}{hint}", found(word.bytes)))
@@ -169,6 +195,11 @@ fn expect_end(cursor: &mut Cursor<'_>, hint: &str) -> Result<(), TextError> {
         found(word.bytes)
     );
     Err(cursor.error(word.at, words))
+}
+
+/// The class that these digits write.
+fn class_in_digits(digits: &[u8]) -> Option<u8> {
+    number(digits)?.try_into().ok()
 }
 
 /// The number that these digits write, if they are digits and it has no more than 16 bits.
