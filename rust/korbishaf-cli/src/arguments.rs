@@ -19,6 +19,8 @@ pub struct Arguments {
     pub json: bool,
     /// Where to write to.
     pub output: Option<OsString>,
+    /// The class that is asked about.
+    pub class: Option<OsString>,
     /// Say what the command does, and no more.
     pub help: bool,
 }
@@ -67,16 +69,28 @@ impl Arguments {
             Flag::Force => self.force = true,
             Flag::Quiet => self.quiet = true,
             Flag::Json => self.json = true,
-            Flag::Output => {
-                let Some(value) = value.or_else(next) else {
-                    return Err(command.misused("expected a file behind '-o', found nothing"));
-                };
-                if self.output.replace(value).is_some() {
-                    return Err(command.misused("'-o' stands there twice"));
-                }
-            }
+            Flag::Output => set_once(&mut self.output, value.or_else(next), command, flag)?,
+            Flag::Class => set_once(&mut self.class, value.or_else(next), command, flag)?,
         }
         Ok(())
+    }
+}
+
+/// Sets what an option takes. It has to be there, and once.
+fn set_once(
+    value: &mut Option<OsString>,
+    found: Option<OsString>,
+    command: &Command,
+    flag: Flag,
+) -> Result<(), Failure> {
+    let name = flag.usual();
+    let Some(found) = found else {
+        let what = flag.value().unwrap_or("value").to_lowercase();
+        return Err(command.misused(&format!("expected a {what} behind '{name}', found nothing")));
+    };
+    match value.replace(found) {
+        None => Ok(()),
+        Some(_) => Err(command.misused(&format!("'{name}' stands there twice"))),
     }
 }
 
@@ -96,11 +110,10 @@ fn find(command: &Command, word: &OsStr) -> Result<(Flag, Option<OsString>), Fai
         command.misused(&format!("unknown option '{}'; {taken}", shown::name(word)))
     };
     for &flag in command.flags {
-        let takes_value = flag == Flag::Output;
         if let Some(rest) = word.as_bytes().strip_prefix(b"--") {
             match rest.strip_prefix(flag.long().as_bytes()) {
                 Some([]) => return Ok((flag, None)),
-                Some([b'=', value @ ..]) if takes_value => {
+                Some([b'=', value @ ..]) if flag.value().is_some() => {
                     return Ok((flag, Some(OsStr::from_bytes(value).into())));
                 }
                 _ => {}
@@ -112,7 +125,9 @@ fn find(command: &Command, word: &OsStr) -> Result<(Flag, Option<OsString>), Fai
         {
             match value {
                 [] => return Ok((flag, None)),
-                _ if takes_value => return Ok((flag, Some(OsStr::from_bytes(value).into()))),
+                _ if flag.value().is_some() => {
+                    return Ok((flag, Some(OsStr::from_bytes(value).into())));
+                }
                 _ => {}
             }
         }
@@ -128,7 +143,7 @@ mod tests {
         name: "try",
         operands: "ONE [TWO]",
         count: (1, 2),
-        flags: &[Flag::Force, Flag::Output],
+        flags: &[Flag::Force, Flag::Output, Flag::Class],
         summary: "",
         details: "",
         run: |_| Ok(()),
@@ -165,6 +180,18 @@ mod tests {
             };
             assert_eq!(read(words), Ok(wanted), "{words}");
         }
+        for (words, class) in [
+            ("--class 2 a", "2"),
+            ("a --class=", ""),
+            ("a --class -f", "-f"),
+        ] {
+            let wanted = Arguments {
+                operands: vec!["a".into()],
+                class: Some(class.into()),
+                ..Arguments::default()
+            };
+            assert_eq!(read(words), Ok(wanted), "{words}");
+        }
     }
 
     #[test]
@@ -191,9 +218,28 @@ mod tests {
             refused("a -o b -o c"),
             "korbishaf try: '-o' stands there twice"
         );
-        let unknown = "korbishaf try: unknown option '--json'; the options are --force, --output";
+        assert_eq!(
+            refused("a --class"),
+            "korbishaf try: expected a class behind '--class', found nothing"
+        );
+        assert_eq!(
+            refused("a --class 2 --class=2"),
+            "korbishaf try: '--class' stands there twice"
+        );
+        let unknown =
+            "korbishaf try: unknown option '--json'; the options are --force, --output, --class";
         assert_eq!(refused("a --json"), unknown);
-        for words in ["--forc", "--forced", "--force=1", "-x", "-fo", "-ff", "--"] {
+        for words in [
+            "--forc",
+            "--forced",
+            "--force=1",
+            "-x",
+            "-fo",
+            "-ff",
+            "--",
+            "-c 2 a",
+            "--class2 a",
+        ] {
             assert!(read(words).is_err(), "{words}");
         }
     }
@@ -209,7 +255,7 @@ mod tests {
     fn the_usage_line() {
         assert_eq!(
             COMMAND.usage(),
-            "usage: korbishaf try [--force] [-o FILE] ONE [TWO]"
+            "usage: korbishaf try [--force] [-o FILE] [--class CLASS] ONE [TWO]"
         );
     }
 }

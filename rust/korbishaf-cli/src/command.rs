@@ -16,11 +16,19 @@ pub enum Flag {
     Json,
     /// `--output FILE`
     Output,
+    /// `--class CLASS`
+    Class,
 }
 
 impl Flag {
     /// All of them, in the order in which a page lists them.
-    pub const ALL: [Flag; 4] = [Flag::Force, Flag::Quiet, Flag::Json, Flag::Output];
+    pub const ALL: [Flag; 5] = [
+        Flag::Force,
+        Flag::Quiet,
+        Flag::Json,
+        Flag::Output,
+        Flag::Class,
+    ];
 
     /// Its long name, without the dashes.
     pub fn long(self) -> &'static str {
@@ -29,6 +37,7 @@ impl Flag {
             Flag::Quiet => "quiet",
             Flag::Json => "json",
             Flag::Output => "output",
+            Flag::Class => "class",
         }
     }
 
@@ -37,8 +46,33 @@ impl Flag {
         match self {
             Flag::Force => Some('f'),
             Flag::Quiet => Some('q'),
-            Flag::Json => None,
+            Flag::Json | Flag::Class => None,
             Flag::Output => Some('o'),
+        }
+    }
+
+    /// Its name in usage lines, with the dashes.
+    pub fn usual(self) -> String {
+        match self.short() {
+            Some(short) if self.value().is_some() => format!("-{short}"),
+            _ => format!("--{}", self.long()),
+        }
+    }
+
+    /// What it takes, if it takes something.
+    pub fn value(self) -> Option<&'static str> {
+        match self {
+            Flag::Force | Flag::Quiet | Flag::Json => None,
+            Flag::Output => Some("FILE"),
+            Flag::Class => Some("CLASS"),
+        }
+    }
+
+    /// One of its names, and what it takes behind that.
+    pub fn with_value(self, name: &str) -> String {
+        match self.value() {
+            Some(value) => format!("{name} {value}"),
+            None => name.into(),
         }
     }
 
@@ -49,6 +83,7 @@ impl Flag {
             Flag::Quiet => "show no progress; what goes wrong is still said",
             Flag::Json => "print JSON, for programs",
             Flag::Output => "write the sheet's bytes to FILE",
+            Flag::Class => "say which line keeps CLASS, a number from 0 to 255 or a name",
         }
     }
 }
@@ -76,10 +111,7 @@ impl Command {
     pub fn usage(&self) -> String {
         let mut line = format!("usage: korbishaf {}", self.name);
         for flag in self.flags {
-            match flag {
-                Flag::Output => line.push_str(" [-o FILE]"),
-                _ => line.push_str(&format!(" [--{}]", flag.long())),
-            }
+            line.push_str(&format!(" [{}]", flag.with_value(&flag.usual())));
         }
         if !self.operands.is_empty() {
             line.push_str(&format!(" {}", self.operands));

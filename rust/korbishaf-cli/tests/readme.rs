@@ -56,7 +56,7 @@ fn the_readme_shows_what_is_printed() {
     assert_eq!(scratch.read("sample.las"), expected);
 }
 
-/// The page shows the output of releases only, and its scan is that of a card.
+/// The page shows the output of some commands only, and its scan is that of a card.
 #[test]
 fn the_manual_page_has_commands_that_work() {
     let page = fs::read_to_string(root().join("rust/korbishaf-cli/korbishaf.1")).unwrap();
@@ -73,7 +73,7 @@ fn the_manual_page_has_commands_that_work() {
         .unwrap();
     let blocks = examples.split(".nf\n").skip(1);
     let shown: Vec<_> = blocks.flat_map(|block| commands(block, ".fi")).collect();
-    assert_eq!(shown.len(), 7);
+    assert_eq!(shown.len(), 8);
     let scratch = Scratch::new();
     fs::copy(root().join("cards/yard/in.las"), scratch.path("scan.las")).unwrap();
     for (command, output) in shown {

@@ -103,6 +103,8 @@ fn words_that_are_missing_or_too_many_are_wrong_usage() {
         "sheet",
         "sheet a b",
         "sheet a -o",
+        "sheet a --class",
+        "sheet --class 2",
         "verify",
         "verify a",
         "explain 1 2",
@@ -127,7 +129,7 @@ fn words_that_are_missing_or_too_many_are_wrong_usage() {
 
 #[test]
 fn the_version() {
-    let version = concat!("korbishaf ", env!("CARGO_PKG_VERSION"), " (level 3)\n");
+    let version = concat!("korbishaf ", env!("CARGO_PKG_VERSION"), " (level 4)\n");
     assert_eq!(says("--version"), Ran::new(0, version, ""));
     assert_eq!(says("-V"), Ran::new(0, version, ""));
     for option in ["--version", "--help"] {
@@ -196,7 +198,7 @@ fn what_is_no_number_is_not_explained() {
 }
 
 /// What prints, in each command.
-const PRINTING: [&str; 11] = [
+const PRINTING: [&str; 12] = [
     "help",
     "--version",
     "explain",
@@ -204,6 +206,7 @@ const PRINTING: [&str; 11] = [
     "show in.las",
     "show --json in.las",
     "sheet sheet.bin",
+    "sheet --class 2 sheet.bin",
     "report in.las sheet.bin",
     "report --json in.las sheet.bin",
     "verify expected.las sheet.bin",

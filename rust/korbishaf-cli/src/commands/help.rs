@@ -56,8 +56,7 @@ pub fn page(command: &Command) -> String {
         let short = flag
             .short()
             .map_or(String::new(), |short| format!("-{short}, "));
-        let value = if flag == Flag::Output { " FILE" } else { "" };
-        let name = format!("{short}--{}{value}", flag.long());
+        let name = flag.with_value(&format!("{short}--{}", flag.long()));
         text.push_str(&format!("  {name:18}  {}\n", flag.summary()));
     }
     text

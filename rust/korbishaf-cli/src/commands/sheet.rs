@@ -1,5 +1,7 @@
 //! `korbishaf sheet`
 
+mod class_line;
+
 use crate::arguments::Arguments;
 use crate::command::{Command, Flag};
 use crate::console;
@@ -8,13 +10,16 @@ use crate::input::{self, Opened};
 use crate::keep_sheet::KeepSheet;
 use crate::progress::Progress;
 use crate::whole_file::Target;
+use korbishaf::class_number;
+use std::ffi::OsStr;
+use std::os::unix::ffi::OsStrExt;
 
 pub const COMMAND: Command = Command {
     name: "sheet",
     operands: "SHEET",
     count: (1, 1),
-    flags: &[Flag::Force, Flag::Output],
-    summary: "turn a text into a keep sheet's bytes, and print it as a text",
+    flags: &[Flag::Force, Flag::Output, Flag::Class],
+    summary: "print a keep sheet, turn it into bytes, or say which line keeps a class",
     details: "\
 Prints a keep sheet as a text, a line for each of its own; with -o it writes the sheet's bytes to FILE
 and prints nothing. SHEET is a text or bytes: what begins with the bytes 4B 53 (\"KS\") or is empty is
@@ -35,11 +40,40 @@ never go out. A line may have classes up to 255; in point formats 0 to 3 no poin
 Spaces at the end of a user ID do not count, neither here nor in a scan: 'record yard 7' also keeps the
 records of a maker who fills user IDs with spaces. A sheet has at most 64 lines; an empty one keeps
 nothing.
+
+With --class it says which line of the sheet keeps a class, and prints nothing else:
+
+  class 6 (building): kept by sheet.txt:2: class 6 (2 of 3 lines looked at)
+  class 5 (high-vegetation): not kept (3 of 3 lines looked at)
+
+The first line that holds the class answers, and those behind it are not looked at; a sheet with a fault
+in any line is refused all the same. CLASS is a number from 0 to 255, without flags in it, or a name.
+Either answer has the exit status 0. Withheld points never go out, even where their class is kept.
 ",
     run,
 };
 
 fn run(arguments: &Arguments) -> Result<(), Failure> {
+    match &arguments.class {
+        Some(class) => say_line_of(class, arguments),
+        None => hand_over(arguments),
+    }
+}
+
+/// Says which line of the sheet keeps a class.
+fn say_line_of(class: &OsStr, arguments: &Arguments) -> Result<(), Failure> {
+    if arguments.force || arguments.output.is_some() {
+        return Err(COMMAND.misused("'--class' writes no file, and takes no '-o' and no '--force'"));
+    }
+    let class =
+        class_number(class.as_bytes()).map_err(|mistake| COMMAND.misused(mistake.words()))?;
+    let sheet = KeepSheet::read(Opened::new(&arguments.operands[0])?)?;
+    let words = class_line::words(&sheet, &sheet.checked()?, class);
+    console::print(format!("{words}\n").as_bytes())
+}
+
+/// Prints the sheet as a text, or writes its bytes.
+fn hand_over(arguments: &Arguments) -> Result<(), Failure> {
     let opened = Opened::new(&arguments.operands[0])?;
     let to_file = arguments
         .output
