@@ -166,7 +166,7 @@ static void mends(void)
 
 int main(void)
 {
-    HOLDS(las_level() == 3);
+    HOLDS(las_level() == 4);
     reads();
     writes();
     classes();

@@ -59,6 +59,11 @@ static void structs(void)
     AT(las_kept, number, 0);
     AT(las_kept, kept, 8);
 
+    HOLDS(sizeof(las_class_line) == 24);
+    AT(las_class_line, number, 0);
+    AT(las_class_line, kept, 8);
+    AT(las_class_line, lines, 16);
+
     HOLDS(sizeof(las_mended) == 104);
     AT(las_mended, number, 0);
     AT(las_mended, marks, 8);
@@ -98,6 +103,7 @@ static void nothing(void)
     las_released released = las_release(NULL, 0, NULL, 0, NULL, 0);
     las_mended mended = las_mend(NULL, 0);
     las_kept class_kept = las_class_kept(NULL, 0, 2);
+    las_class_line class_line = las_class_test(NULL, 0, 2);
     las_kept record_kept = las_record_kept(NULL, 0, NULL, 0, 7);
     las_point point;
 
@@ -109,6 +115,7 @@ static void nothing(void)
     HOLDS(refusal(&released, sizeof released, 1));
     HOLDS(refusal(&mended, sizeof mended, 1));
     HOLDS(class_kept.number == 0 && class_kept.kept == 0);
+    HOLDS(class_line.number == 0 && class_line.kept == 0 && class_line.lines == 0);
     HOLDS(record_kept.number == 0 && record_kept.kept == 0);
     point = las_point_at(NULL, 0, 0);
     HOLDS(refusal(&point, sizeof point, 1));
@@ -167,7 +174,7 @@ static void others(void)
 
     HOLDS(las_coordinate(-1, 0x3FE0000000000000, 0x4024000000000000) == 0x4023000000000000);
     HOLDS(las_coordinate(1, 0xFFF0000000000001, 0) == 0x7FF8000000000000);
-    HOLDS(las_level() == 3);
+    HOLDS(las_level() == 4);
 }
 
 int main(void)

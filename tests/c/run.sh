@@ -1,5 +1,5 @@
 #!/usr/bin/env bash
-# Tries the header and the static library as a C caller would: the header as C and as C++, and five programs over the
+# Tries the header and the static library as a C caller would: the header as C and as C++, and six programs over the
 # library.
 # Usage: tests/c/run.sh LIBDIR, the folder with libcapi.a; its last line is 'N passed, M failed'.
 set -u
@@ -62,6 +62,7 @@ holds "interface.c" cc -std=c99 "${strict[@]}" -I"$include" "$here/interface.c" 
 holds "mend.c" cc -std=c99 "${strict[@]}" -I"$include" "$here/mend.c" "$library" -o "$scratch/mend"
 holds "texts.c" cc -std=c99 "${strict[@]}" -I"$include" "$here/texts.c" "$library" -o "$scratch/texts"
 holds "flags.c" cc -std=c99 "${strict[@]}" -I"$include" "$here/flags.c" "$library" -o "$scratch/flags"
+holds "class_test.c" cc -std=c99 "${strict[@]}" -I"$include" "$here/class_test.c" "$library" -o "$scratch/class_test"
 # the lines of the README, with what they take for granted around them: a card's scan and its sheet
 {
     printf '%s\n' '#include "korbishaf.h"' '#include <stdio.h>' '#include <stdlib.h>' 'int main(void) {' \
@@ -89,6 +90,7 @@ add "$scratch/interface"
 add "$scratch/mend"
 add "$scratch/texts"
 add "$scratch/flags"
+add "$scratch/class_test"
 
 echo "$passed passed, $failed failed"
 [ "$failed" -eq 0 ]

@@ -77,6 +77,14 @@ pub struct Kept {
     pub kept: u64,
 }
 
+/// The answer to whether a line of a sheet holds a class, and how many lines were looked at.
+#[derive(Debug, Clone, Copy, PartialEq, Eq, Default)]
+pub struct ClassLine {
+    pub number: u64,
+    pub kept: u64,
+    pub lines: u64,
+}
+
 /// The answer with a header's fields; doubles by their bits.
 #[derive(Debug, Clone, Copy, PartialEq, Eq, Default)]
 pub struct Header {

@@ -3,7 +3,7 @@
 use std::collections::{BTreeMap, BTreeSet};
 use std::fmt::Debug;
 
-use crate::answers::{GeoKey, Header, Kept, Mended, Point, Record, Released};
+use crate::answers::{ClassLine, GeoKey, Header, Kept, Mended, Point, Record, Released};
 use crate::lent::Lent;
 use crate::{ours, plain};
 
@@ -18,6 +18,7 @@ pub enum Function {
     Encode,
     CheckSheet,
     ClassKept,
+    ClassTest,
     RecordKept,
     GeoKeyFind,
     Release,
@@ -35,7 +36,9 @@ impl Function {
             Self::PointAt => file.chain([11]).collect(),
             Self::Decode => [12].into(),
             Self::Encode => [12, 13].into(),
-            Self::CheckSheet | Self::ClassKept | Self::RecordKept => sheet.collect(),
+            Self::CheckSheet | Self::ClassKept | Self::ClassTest | Self::RecordKept => {
+                sheet.collect()
+            }
             Self::GeoKeyFind => file.chain(40..=46).collect(),
             Self::Release => file.chain(sheet).chain([30]).collect(),
             Self::Mend => file.filter(|&number| number != 9).collect(),
@@ -176,6 +179,19 @@ impl Compared {
             answer.number,
             answer,
             plain::class_kept(sheet, class),
+        );
+        self.untouched(&[&lent]);
+        answer
+    }
+
+    pub fn class_test(&mut self, sheet: &[u8], class: u8) -> ClassLine {
+        let mut lent = Lent::new(sheet);
+        let answer = ours::class_test(&mut lent, class);
+        self.agree(
+            Function::ClassTest,
+            answer.number,
+            answer,
+            plain::class_test(sheet, class),
         );
         self.untouched(&[&lent]);
         answer

@@ -1,4 +1,4 @@
-//! Single fields of a file changed.
+//! Single fields of a file changed, and single bytes of a sheet.
 
 use crate::rng::Rng;
 
@@ -120,6 +120,18 @@ pub fn spoil(file: &mut Vec<u8>, number: u64) {
         8 => VLR_COUNT.set(file, u32::MAX.into()),
         9 => POINT_COUNT.set(file, u32::MAX.into()),
         _ => SCALING[5].set(file, f64::NAN.to_bits()),
+    }
+}
+
+/// Does one random damage to a sheet: behind it, at its end or within. Some sheets are left as they were.
+pub fn damage_sheet(rng: &mut Rng, sheet: &mut Vec<u8>) {
+    if sheet.is_empty() || rng.chance(30) {
+        sheet.extend(rng.some_bytes(6));
+    } else if rng.chance(40) {
+        sheet.truncate(rng.below(sheet.len()));
+    } else {
+        let place = rng.below(sheet.len());
+        sheet[place] = rng.pick(&[0, 1, 2, 3, 0x4B, 0x53, 255]);
     }
 }
 

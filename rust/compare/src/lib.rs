@@ -6,7 +6,7 @@
 //!   and remembers which of the specification's numbers were reached.
 //! * [`spec`] builds valid files and sheets from a description; [`damage`]
 //!   changes single fields of them; [`boundaries`] has files on both sides of each
-//!   file check.
+//!   file check, [`sheet_ends`] ends of sheets on both sides of each sheet check.
 //! * [`rooms`] releases a file into outputs of all telling lengths.
 //! * [`lent::Lent`] lends bytes from the middle of a guarded buffer.
 
@@ -19,4 +19,5 @@ pub mod ours;
 pub mod plain;
 pub mod rng;
 pub mod rooms;
+pub mod sheet_ends;
 pub mod spec;

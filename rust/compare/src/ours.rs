@@ -2,7 +2,7 @@
 
 use korbishaf::sys;
 
-use crate::answers::{GeoKey, Header, Kept, Mended, Point, Record, Released};
+use crate::answers::{ClassLine, GeoKey, Header, Kept, Mended, Point, Record, Released};
 use crate::lent::Lent;
 
 // SAFETY, for every call below: each pointer comes with the length of the
@@ -100,6 +100,16 @@ pub fn class_kept(sheet: &mut Lent, class: u8) -> Kept {
     kept_answer(unsafe { sys::las_class_kept(sheet.pointer(), sheet.length(), class) })
 }
 
+pub fn class_test(sheet: &mut Lent, class: u8) -> ClassLine {
+    // SAFETY: see above.
+    let answer = unsafe { sys::las_class_test(sheet.pointer(), sheet.length(), class) };
+    ClassLine {
+        number: answer.number,
+        kept: answer.kept,
+        lines: answer.lines,
+    }
+}
+
 pub fn record_kept(sheet: &mut Lent, user: &mut Lent, record_id: u16) -> Kept {
     let (sheet, sheet_length) = (sheet.pointer(), sheet.length());
     let (user, user_length) = (user.pointer(), user.length());
@@ -138,8 +148,8 @@ pub fn mend(file: &mut Lent) -> Mended {
 }
 
 /// The answers for empty slices that come as null pointers: check of the
-/// file, check of the sheet, decode, encode, release, mend.
-pub fn on_null_pointers() -> [u64; 6] {
+/// file, check of the sheet, class test, decode, encode, release, mend.
+pub fn on_null_pointers() -> [u64; 7] {
     let null = std::ptr::null();
     let null_mut = std::ptr::null_mut();
     let point = point_argument(&Point::default());
@@ -148,6 +158,7 @@ pub fn on_null_pointers() -> [u64; 6] {
         [
             sys::las_check_file(null, 0),
             sys::las_check_sheet(null, 0),
+            sys::las_class_test(null, 0, 2).number,
             sys::las_decode(0, 20, null, 0).number,
             sys::las_encode(0, 20, point, null_mut, 0),
             sys::las_release(null, 0, null, 0, null_mut, 0).number,

@@ -2,7 +2,7 @@
 
 use las_plain::{GeoValue, LasFile, Refusal};
 
-use crate::answers::{GeoKey, Header, Kept, Mended, Point, Record, Released};
+use crate::answers::{ClassLine, GeoKey, Header, Kept, Mended, Point, Record, Released};
 
 /// The bits that a coordinate that is not a number has in the interface.
 const NAN_BITS: u64 = 0x7FF8_0000_0000_0000;
@@ -88,6 +88,20 @@ pub fn coordinate(stored: i32, scale: u64, offset: u64) -> u64 {
 
 pub fn class_kept(sheet: &[u8], class: u8) -> Kept {
     kept_answer(las_plain::class_kept(sheet, class))
+}
+
+pub fn class_test(sheet: &[u8], class: u8) -> ClassLine {
+    match las_plain::class_test(sheet, class) {
+        Ok(line) => ClassLine {
+            number: 0,
+            kept: line.kept.into(),
+            lines: line.lines,
+        },
+        Err(refusal) => ClassLine {
+            number: refusal.number(),
+            ..ClassLine::default()
+        },
+    }
 }
 
 pub fn record_kept(sheet: &[u8], user: &[u8], record_id: u16) -> Kept {

@@ -1,14 +1,17 @@
 //! The keep sheet: the numbers 20 to 24, and what a sheet keeps.
 
 use compare::compared::{Compared, Function};
+use compare::damage::damage_sheet;
 use compare::rng::{Rng, seeds};
+use compare::sheet_ends::ENDS;
 use compare::spec::{
     FileSpec, LineSpec, RECORD_IDS, RecordSpec, SheetSpec, USER_IDS, padded, with_tail,
 };
 
-const SHEET_FUNCTIONS: [Function; 3] = [
+const SHEET_FUNCTIONS: [Function; 4] = [
     Function::CheckSheet,
     Function::ClassKept,
+    Function::ClassTest,
     Function::RecordKept,
 ];
 
@@ -16,8 +19,9 @@ const SHEET_FUNCTIONS: [Function; 3] = [
 fn call_all(compared: &mut Compared, sheet: &[u8]) -> u64 {
     let number = compared.check_sheet(sheet);
     let class = compared.class_kept(sheet, 2);
+    let line = compared.class_test(sheet, 2);
     let record = compared.record_kept(sheet, b"user", 7);
-    assert_eq!([class.number, record.number], [number; 2]);
+    assert_eq!([class.number, line.number, record.number], [number; 3]);
     let file = FileSpec::bare(0).bytes();
     let (released, _) = compared.release(&file, sheet, &[0xEE; 230]);
     assert_eq!(released.number, number);
@@ -37,32 +41,6 @@ fn lines(count: usize) -> Vec<u8> {
         })
         .collect()
 }
-
-/// What a sheet may end with, and the number that it then has.
-const ENDS: [(&[u8], u64); 22] = [
-    (b"", 0),
-    (b"K", 22),
-    (b"KS", 22),
-    (b"\0\0", 22),
-    (b"KS\x01", 22),
-    (b"KS\x01\x02", 22),
-    (b"KS\x01\x02\x02", 0),
-    (b"KS\x01\x02\x03", 0),
-    (b"KS\x01\x03\x02", 23),
-    (b"KS\x01\x09", 22),
-    (b"KS\x01\xFF\x00", 23),
-    (b"KS\x01\x00\xFF", 0),
-    (b"KS\x01\x80\x7F", 23),
-    (b"KS\x01\x7F\x80", 0),
-    (b"KT\x01\x02\x02", 20),
-    (b"LS\x01\x02\x02", 20),
-    (b"SK\x01\x02\x02", 20),
-    (b"KT\x07", 20),
-    (b"KS\x00", 21),
-    (b"KS\x03\x02\x02", 21),
-    (b"KS\x02seventeen bytes..", 22),
-    (b"KS\x02eighteen  bytes...", 0),
-];
 
 #[test]
 fn each_sheet_number_is_given_on_its_side_of_the_boundary() {
@@ -242,14 +220,7 @@ fn damaged_sheets_give_equal_numbers() {
         for round in 0..6000 {
             let mut sheet = SheetSpec::random(&mut rng).bytes();
             compared.case(format!("seed {seed}, sheet {round}"));
-            if sheet.is_empty() || rng.chance(30) {
-                sheet.extend(rng.some_bytes(6));
-            } else if rng.chance(40) {
-                sheet.truncate(rng.below(sheet.len()));
-            } else {
-                let place = rng.below(sheet.len());
-                sheet[place] = rng.pick(&[0, 1, 2, 3, 0x4B, 0x53, 255]);
-            }
+            damage_sheet(&mut rng, &mut sheet);
             call_all(&mut compared, &sheet);
         }
         compared.assert_all_reached(&SHEET_FUNCTIONS);

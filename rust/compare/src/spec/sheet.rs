@@ -35,6 +35,11 @@ impl LineSpec {
         Self::Classes(low, high)
     }
 
+    /// Whether the line is for classes and this is one of them.
+    pub fn holds_class(&self, class: u8) -> bool {
+        matches!(self, Self::Classes(low, high) if (low..=high).contains(&&class))
+    }
+
     pub fn bytes(&self) -> Vec<u8> {
         match self {
             Self::Classes(low, high) => vec![0x4B, 0x53, 1, *low, *high],
@@ -74,9 +79,7 @@ impl SheetSpec {
     }
 
     pub fn keeps_class(&self, class: u8) -> bool {
-        self.lines.iter().any(
-            |line| matches!(line, LineSpec::Classes(low, high) if (low..=high).contains(&&class)),
-        )
+        self.lines.iter().any(|line| line.holds_class(class))
     }
 
     /// Whether the point is not withheld, and of a class that the sheet keeps.
