@@ -2,13 +2,14 @@
 
 mod loading;
 
-use korbishaf::sys::{self, las_mended, las_point, las_released};
+use korbishaf::sys::{self, las_class_line, las_mended, las_point, las_released};
 
 type Release = unsafe extern "C" fn(*const u8, u64, *const u8, u64, *mut u8, u64) -> las_released;
 type CheckFile = unsafe extern "C" fn(*const u8, u64) -> u64;
 type Decode = unsafe extern "C" fn(u8, u16, *const u8, u64) -> las_point;
 type Encode = unsafe extern "C" fn(u8, u16, las_point, *mut u8, u64) -> u64;
 type Mend = unsafe extern "C" fn(*mut u8, u64) -> las_mended;
+type ClassTest = unsafe extern "C" fn(*const u8, u64, u8) -> las_class_line;
 
 /// One build, by those of its functions that are timed. Every build is called through pointers, so that none is called
 /// in a faster way.
@@ -18,11 +19,16 @@ pub struct Library {
     decode: Decode,
     encode: Encode,
     mender: Option<Mender>,
+    tester: Option<Tester>,
 }
 
 /// What mends files in a build.
 #[derive(Clone, Copy)]
 pub struct Mender(Mend);
+
+/// What looks for the line of a sheet that holds a class in a build.
+#[derive(Clone, Copy)]
+pub struct Tester(ClassTest);
 
 impl Library {
     /// The build that is linked into the program.
@@ -33,6 +39,7 @@ impl Library {
             decode: sys::las_decode,
             encode: sys::las_encode,
             mender: Some(Mender(sys::las_mend)),
+            tester: Some(Tester(sys::las_class_test)),
         }
     }
 
@@ -67,9 +74,15 @@ impl Library {
         // SAFETY: as above.
         unsafe { (self.encode)(format, length as u16, point, to, length as u64) }
     }
+
     /// What mends files, but in a build that is older than mending.
     pub fn mender(&self) -> Option<Mender> {
         self.mender
+    }
+
+    /// What tests classes, but in a build that is older than the class test.
+    pub fn tester(&self) -> Option<Tester> {
+        self.tester
     }
 }
 
@@ -77,5 +90,12 @@ impl Mender {
     pub fn mend(self, file: &mut [u8]) -> las_mended {
         // SAFETY: as above.
         unsafe { (self.0)(file.as_mut_ptr(), file.len() as u64) }
+    }
+}
+
+impl Tester {
+    pub fn class_test(self, sheet: &[u8], class: u8) -> las_class_line {
+        // SAFETY: as above.
+        unsafe { (self.0)(sheet.as_ptr(), sheet.len() as u64, class) }
     }
 }

@@ -8,6 +8,7 @@
 mod builds;
 mod calls;
 mod cases;
+mod class_tests;
 mod each;
 mod growth;
 mod library;
@@ -63,4 +64,6 @@ fn compare(builds: &Builds) {
     records::compare(builds);
     println!();
     calls::compare(builds);
+    println!();
+    class_tests::compare(builds);
 }

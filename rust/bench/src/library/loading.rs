@@ -4,7 +4,7 @@ use std::ffi::{CStr, CString, c_char, c_int, c_void};
 use std::mem::transmute;
 use std::path::Path;
 
-use super::{CheckFile, Decode, Encode, Library, Mend, Mender, Release};
+use super::{CheckFile, ClassTest, Decode, Encode, Library, Mend, Mender, Release, Tester};
 
 unsafe extern "C" {
     fn dlopen(path: *const c_char, mode: c_int) -> *mut c_void;
@@ -20,6 +20,7 @@ impl Library {
         let object = open(path).map_err(|why| format!("{}: {why}", path.display()))?;
         let find = |name| function(object, name);
         let mend = find(c"las_mend").ok();
+        let class_test = find(c"las_class_test").ok();
         // SAFETY: the header of every build declares functions of these names with these types, if it has them.
         unsafe {
             Ok(Self {
@@ -28,6 +29,7 @@ impl Library {
                 decode: transmute::<*mut c_void, Decode>(find(c"las_decode")?),
                 encode: transmute::<*mut c_void, Encode>(find(c"las_encode")?),
                 mender: mend.map(|mend| Mender(transmute::<*mut c_void, Mend>(mend))),
+                tester: class_test.map(|test| Tester(transmute::<*mut c_void, ClassTest>(test))),
             })
         }
     }
