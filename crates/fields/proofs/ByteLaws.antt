@@ -49,6 +49,10 @@ take-bytes (suc w) [] h i = omega arith
 take-bytes (suc w) (b ∷ bs) h zero = h 0
 take-bytes (suc w) (b ∷ bs) h (suc i) = take-bytes w bs (λ k. h (suc k)) i
 
+pub part-bytes : (at w : ℕ) (s : Bytes) → AllBytes s → AllBytes (part at w s)
+unfolding part
+part-bytes at w s h = take-bytes w (drop at s) (drop-bytes at s h)
+
 -- a number of w bytes read in a file is below 256 ^ w
 pub num-part-lt : (at w : ℕ) (s : Bytes) → AllBytes s → num (part at w s) < 256 ^ w
 unfolding part

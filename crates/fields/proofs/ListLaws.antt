@@ -4,7 +4,7 @@ use mathlib.Core.Path.{_≡_, refl, sym, ap, _∙_, fun-ext}
 use Prim.Native.Nat.{ℕ, suc, _+_, _≤_}
 use native.Mathlib.Omega.{arith}
 use mathlib.Core.Bool.{Bool, true, false, _&&_, and-comm}
-use mathlib.Core.List.{List, [], _∷_, _++_}
+use mathlib.Core.List.{List, [], _∷_, _++_, map}
 use lib.ListN.{length}
 use Rattle.fields.specs.Lists.{All, kept, consIf, total, anyOf}
 
@@ -81,7 +81,7 @@ module _ {ℓ} {A : Type ℓ} where
       go true again few e = ap (λ (r : List A). x ∷ r) (again (omega arith))
       go false again few e = absurd (omega arith)
 
-  consIf-append : (b : Bool) (x : A) (xs ys : List A) → consIf b x (xs ++ ys) ≡ consIf b x xs ++ ys
+  pub consIf-append : (b : Bool) (x : A) (xs ys : List A) → consIf b x xs ++ ys ≡ consIf b x (xs ++ ys)
   unfolding consIf
   consIf-append true x xs ys = refl
   consIf-append false x xs ys = refl
@@ -89,7 +89,7 @@ module _ {ℓ} {A : Type ℓ} where
   pub kept-append : (p : A → Bool) (xs ys : List A) → kept p (xs ++ ys) ≡ kept p xs ++ kept p ys
   unfolding kept
   kept-append p [] ys = refl
-  kept-append p (x ∷ xs) ys = rw (kept-append p xs ys) (consIf-append (p x) x (kept p xs) (kept p ys))
+  kept-append p (x ∷ xs) ys = rw (kept-append p xs ys) (sym (consIf-append (p x) x (kept p xs) (kept p ys)))
 
   consIf-both : (p : A → Bool) (x : A) (b c : Bool) → p x ≡ c → (xs : List A) → kept p (consIf b x xs) ≡ consIf (b && c) x (kept p xs)
   unfolding kept consIf
@@ -114,3 +114,27 @@ module _ {ℓ} {A : Type ℓ} where
   pub all-of : (P : A → Type 0) (l : List A) → ((x : A) → P x) → All P l
   all-of P [] h = tt
   all-of P (x ∷ xs) h = (h x, all-of P xs h)
+
+-- ---- what is made of each element
+
+module _ {A B : Type 0} (f : A → B) where
+  pub map-consIf : (b : Bool) (x : A) (xs : List A) → map f (consIf b x xs) ≡ consIf b (f x) (map f xs)
+  unfolding consIf
+  map-consIf true x xs = refl
+  map-consIf false x xs = refl
+
+  -- kept before or afterwards
+  pub kept-map : (p : B → Bool) (l : List A) → kept p (map f l) ≡ map f (kept (λ x. p (f x)) l)
+  unfolding kept
+  kept-map p [] = refl
+  kept-map p (x ∷ xs) = rw (map-consIf, kept-map p xs)
+
+  -- of each of these in turn
+  pub map-map : {C : Type 0} (g : B → C) (l : List A) → map g (map f l) ≡ map (λ x. g (f x)) l
+  map-map g [] = refl
+  map-map {C = C} g (x ∷ xs) = ap (λ (r : List C). g (f x) ∷ r) (map-map g xs)
+
+  -- the same, put another way
+  pub map-same : (g : A → B) (l : List A) → All (λ x. f x ≡ g x) l → map f l ≡ map g l
+  map-same g [] h = refl
+  map-same g (x ∷ xs) h = rw (h .0) (ap (λ (r : List B). g x ∷ r) (map-same g xs (h .1)))

@@ -61,6 +61,9 @@ pub const TOO_MANY_LINES: u64 = 24;
 // The output is shorter than the released file.
 pub const OUTPUT_TOO_SHORT: u64 = 30;
 
+// The list has fewer lines than there are kept records and points.
+pub const LIST_TOO_SHORT: u64 = 31;
+
 // There is no GeoKey directory.
 pub const NO_DIRECTORY: u64 = 40;
 

@@ -14,10 +14,26 @@ use Rattle.fields.specs.declared.Verdict.{Verdict}
 use Rattle.fields.specs.declared.Verdict.the-variants.{Passes, Fails}
 use Rattle.lasfile.specs.FileChecks.{fileVerdict}
 use Rattle.sheet.specs.Sheet.{sheetVerdict}
-use Rattle.publicpart.specs.Public.{contents, publicOf}
+use Rattle.publicpart.specs.Public.{Public, contents, publicOf}
 use Rattle.publicpart.specs.Render.{render}
 use Rattle.publicpart.specs.Release.{Outcome, refuseOr, shortOr, accepted, roomOr, release}
 use Rattle.publicpart.specs.declared.Answer.the-variants.{Released, Short, Refused}
+
+-- ---- an output of a public part
+
+module _ (p : Public) (out : Bytes) where
+  pub room-short : length out < length (render p) → roomOr p out ≡ (Short (length (render p)), out)
+  unfolding roomOr shortOr
+  room-short h = rw (lt-ltb (length out) (length (render p)) h)
+
+  pub room-long : length (render p) ≤ length out → roomOr p out ≡ (
+    Released (length (render p)) (length (p .points)) (length (p .records)),
+    render p ++ zeros (length out - length (render p)),
+  )
+  unfolding roomOr shortOr accepted
+  room-long h = rw (le-ltb (length out) (length (render p)) h)
+
+-- ---- a release, case by case
 
 module _ (sheet s out : Bytes) where
   pub refused-by-file : (n : ℕ) → fileVerdict s ≡ Fails n → release sheet s out ≡ (Refused n, out)
@@ -31,15 +47,15 @@ module _ (sheet s out : Bytes) where
 
     module _ (sheetGood : sheetVerdict sheet ≡ Passes) where
       pub release-short : length out < length (render (publicOf sheet s)) → release sheet s out ≡ (Short (length (render (publicOf sheet s))), out)
-      unfolding release refuseOr then roomOr shortOr
-      release-short h = rw (fileGood, sheetGood, lt-ltb (length out) (length (render (publicOf sheet s))) h)
+      unfolding release refuseOr then
+      release-short h = rw (fileGood, sheetGood) (room-short (publicOf sheet s) out h)
 
       pub release-long : length (render (publicOf sheet s)) ≤ length out → release sheet s out ≡ (
         Released (length (render (publicOf sheet s))) (length (publicOf sheet s .points)) (length (publicOf sheet s .records)),
         render (publicOf sheet s) ++ zeros (length out - length (render (publicOf sheet s))),
       )
-      unfolding release refuseOr then roomOr shortOr accepted
-      release-long h = rw (fileGood, sheetGood, le-ltb (length out) (length (render (publicOf sheet s))) h)
+      unfolding release refuseOr then
+      release-long h = rw (fileGood, sheetGood) (room-long (publicOf sheet s) out h)
 
 -- of files that pass a release looks at the contents alone
 pub release-alike : (sheet s t out : Bytes) → fileVerdict s ≡ Passes → fileVerdict t ≡ Passes → contents s ≡ contents t → release sheet s out ≡ release sheet t out

@@ -8,3 +8,4 @@ pub mod Sound
 pub mod Back
 pub mod LengthLaws
 pub mod AnswerLaws
+pub mod CuttingLaws

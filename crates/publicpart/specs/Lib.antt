@@ -3,3 +3,4 @@ pub mod Public
 pub mod Head
 pub mod Render
 pub mod Release
+pub mod Cutting

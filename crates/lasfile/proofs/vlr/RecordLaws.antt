@@ -5,14 +5,14 @@ use Prim.Native.Nat.{ℕ, zero, suc, _+_, _-_, _≤_, _<_}
 use native.Mathlib.Nat.{not-suc-le-zero}
 use native.Mathlib.Omega.{arith}
 use mathlib.Core.List.{List, [], _∷_, _++_, map, append-assoc}
-use lib.ListN.{length, getD, drop, length-append, length-drop}
+use lib.ListN.{length, getD, take, drop, length-append, length-drop}
 use lib.Seq.{drop-at}
 use lib.Dec.{lit<}
 use Rattle.fields.specs.Lists.{All, total}
 use Rattle.fields.specs.Bytes.{Bytes, AllBytes, part, num, bytesOf, join, Fit, start}
 use Rattle.fields.specs.Text.{cut, padded}
 use Rattle.lasfile.specs.Records.{Record, recordWidths, frontSize, payloadLength, recordOf, sizeOf, places, walk, walkEnd, recordFields, recordBytes, writtenLength, recordsBytes, SoundRecord}
-use Rattle.fields.proofs.ByteLaws.{num-bytesOf, length-bytesOf, num-part-lt, length-part, field-back, length-join, drop-bytes}
+use Rattle.fields.proofs.ByteLaws.{num-bytesOf, length-bytesOf, num-part-lt, length-part, part-take, field-back, length-join, drop-bytes}
 use Rattle.fields.proofs.TextLaws.{held, length-padded}
 
 -- ---- reading a file
@@ -21,6 +21,13 @@ use Rattle.fields.proofs.TextLaws.{held, length-padded}
 pub front-in-size : (lw : ℕ) (s : Bytes) → frontSize lw ≤ sizeOf lw s
 unfolding sizeOf
 front-in-size lw s = omega arith
+
+-- nothing of it stands behind its end
+pub record-cut : (lw : ℕ) (s : Bytes) → recordOf lw (take (frontSize lw + payloadLength lw s) s) ≡ recordOf lw s
+unfolding recordOf payloadLength
+record-cut lw s =
+    let n : ℕ = frontSize lw + payloadLength lw s in
+    rw (part-take 2 16 n s (omega arith), part-take 18 2 n s (omega arith), part-take 20 lw n s (omega arith), part-take (20 + lw) 32 n s (omega arith), part-take (frontSize lw) (payloadLength lw s) n s (omega arith))
 
 pub walk-grows : (lw n at : ℕ) (s : Bytes) → at ≤ walkEnd lw n at s
 unfolding walkEnd
