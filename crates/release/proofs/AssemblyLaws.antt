@@ -64,7 +64,7 @@ over-front x y h e =
     sets-eq h (x ++ y) 0 (omega (arith, length-append x y)) ∙ rw z (ap (λ (r : Bytes). h ++ r) (drop-at x y (length h) e))
 
 module _ (sheet s : Bytes) (bytes : AllBytes s) (passes : fileVerdict s ≡ Passes) where
-  abbrev part-of : Public
+  abbrev pub part-of : Public
   part-of = publicOf sheet s
 
   abbrev run : Bytes
@@ -72,13 +72,13 @@ module _ (sheet s : Bytes) (bytes : AllBytes s) (passes : fileVerdict s ≡ Pass
 
   -- ---- what the definitions say of the file
 
-  sound-part : Sound part-of
+  pub sound-part : Sound part-of
   sound-part = rw (public-is sheet s) (sound-restrict sheet (contents s) (sound s bytes (passed s passes)))
 
   format-is : part-of .carried .format ≡ format s
   format-is = rw (public-carried sheet s) (carried-format s)
 
-  length-is : part-of .carried .recordLength ≡ recordLength s
+  pub length-is : part-of .carried .recordLength ≡ recordLength s
   length-is = rw (public-carried sheet s) (carried-length s)
 
   scaling-is : scalingIn (part-of .carried .scaling) ≡ scalingOf s
@@ -88,31 +88,31 @@ module _ (sheet s : Bytes) (bytes : AllBytes s) (passes : fileVerdict s ≡ Pass
   abbrev head : Bytes
   head = join (headFields (headOf part-of))
 
-  abbrev records : Bytes
+  abbrev pub records : Bytes
   records = recordsBytes 2 (part-of .records)
 
-  abbrev points : Bytes
+  abbrev pub points : Bytes
   points = join (part-of .points)
 
   length-of-head : length head ≡ headerBlock
   length-of-head = length-head (headOf part-of) (fitting part-of sound-part)
 
-  length-of-records : length records ≡ total (writtenLength 2) (part-of .records)
+  pub length-of-records : length records ≡ total (writtenLength 2) (part-of .records)
   length-of-records = length-recordsBytes 2 (part-of .records) (sound-part .records)
 
-  length-of-points : length points ≡ length (part-of .points) * recordLength s
+  pub length-of-points : length points ≡ length (part-of .points) * recordLength s
   length-of-points = rw (← length-is) (length-join-pieces (part-of .carried .recordLength) (part-of .points) (sound-part .points))
 
   -- the length of the released file
-  render-length : length (render part-of) ≡ newOffset part-of + length (part-of .points) * recordLength s
+  pub render-length : length (render part-of) ≡ newOffset part-of + length (part-of .points) * recordLength s
   render-length = length-render part-of sound-part ∙ rw (total-length part-of, length-is)
 
-  long : 20 ≤ recordLength s
+  pub long : 20 ≤ recordLength s
   long = omega (arith, shared-first (format s) (passed s passes .formatted), passed s passes .recordLow)
 
   -- ---- the header is that of the public part's points
 
-  abbrev own : HeadTotals
+  abbrev pub own : HeadTotals
   own = totalsOf s (tallyOf (format s) (part-of .points)) (length (part-of .records)) (newOffset part-of)
 
   head-is : headWith s own ≡ headOf part-of
@@ -124,6 +124,32 @@ module _ (sheet s : Bytes) (bytes : AllBytes s) (passes : fileVerdict s ≡ Pass
 
   own-head : headBytes s own ≡ head
   own-head = whole-head s own (passed s passes .whole) ∙ ap (λ (k : Head). join (headFields k)) head-is
+
+  pub offset-is : newOffset part-of ≡ headerBlock + length records
+  offset-is = omega (arith, new-offset part-of, length-of-records)
+
+  -- ---- an output that has room for the released file
+
+  module _ (out : Bytes) (room : length (render part-of) ≤ length out) where
+    -- zeros behind it
+    abbrev pub z : Bytes
+    z = zeros (length out - length (render part-of))
+
+    -- where the header goes
+    abbrev pub front : Bytes
+    front = take headerBlock out
+
+    pub length-front : length front ≡ headerBlock
+    length-front = length-take-le headerBlock out (omega (arith, render-length, offset-is))
+
+    length-both : length (front ++ records) ≡ newOffset part-of
+    length-both = omega (arith, length-append front records, length-front, offset-is)
+
+    -- the header over the front of records, points and zeros
+    pub headed : sets ((front ++ records) ++ (points ++ z)) 0 (headBytes s own) ≡ render part-of ++ z
+    headed =
+        rw (own-head, append-assoc front records (points ++ z))
+        (over-front front (records ++ (points ++ z)) head (length-front ∙ sym length-of-head) ∙ sym (render-parts part-of z))
 
   module _ (table : List Bool) (right : TableOf sheet (format s) table) where
     -- the table keeps the points that the sheet keeps
@@ -145,51 +171,34 @@ module _ (sheet s : Bytes) (bytes : AllBytes s) (passes : fileVerdict s ≡ Pass
         (by-table (pieces (pointCount s) (recordLength s) run) (pieces-bytes (pointCount s) (recordLength s) run run-bytes)))
 
     module _ (out : Bytes) (room : length (render part-of) ≤ length out) where
-      abbrev z : Bytes
-      z = zeros (length out - length (render part-of))
-
-      -- where the header goes
-      abbrev front : Bytes
-      front = take headerBlock out
-
-      offset-is : newOffset part-of ≡ headerBlock + length records
-      offset-is = omega (arith, new-offset part-of, length-of-records)
-
-      length-front : length front ≡ headerBlock
-      length-front = length-take-le headerBlock out (omega (arith, render-length, offset-is))
-
-      length-both : length (front ++ records) ≡ newOffset part-of
-      length-both = omega (arith, length-append front records, length-front, offset-is)
-
-      records-stored : take (newOffset part-of) (sets out headerBlock records) ≡ front ++ records
+      records-stored : take (newOffset part-of) (sets out headerBlock records) ≡ front out room ++ records
       records-stored =
-          rw (sets-eq records out headerBlock (omega (arith, render-length, offset-is))) (take-at (front ++ records) (drop (headerBlock + length records) out) (newOffset part-of) length-both)
+          rw (sets-eq records out headerBlock (omega (arith, render-length, offset-is)))
+          (take-at (front out room ++ records) (drop (headerBlock + length records) out) (newOffset part-of) (length-both out room))
 
-      points-stored : withPoints table s (newOffset part-of) (sets out headerBlock records) ≡ (front ++ records) ++ (points ++ z)
+      points-stored : withPoints table s (newOffset part-of) (sets out headerBlock records) ≡ (front out room ++ records) ++ (points ++ z out room)
       points-stored =
           let n : length out - newOffset part-of - length points ≡ length out - length (render part-of) = omega (arith, render-length, length-of-points) in
           rw (with-points, records-stored, length-sets, points-are, zeros-behind points (length out - newOffset part-of) (omega (arith, render-length, length-of-points)), n)
 
       -- records, points and zeros at their places, and the header over the front
-      pub assembled : written sheet s table (length (part-of .records)) (newOffset part-of) out ≡ render part-of ++ z
-      assembled =
-          rw (written-is, points-stored, points-are, own-head, append-assoc front records (points ++ z))
-          (over-front front (records ++ (points ++ z)) head (length-front ∙ sym length-of-head) ∙ sym (render-parts part-of z))
+      pub assembled : written sheet s table (length (part-of .records)) (newOffset part-of) out ≡ render part-of ++ z out room
+      assembled = rw (written-is, points-stored, points-are) (headed out room)
 
 -- what was measured, over the released file
 pub record Sized (sheet s : Bytes) (table : List Bool) (k : KeptRecords) : Type 0 where
-  pub offset : headerBlock + k .length ≡ newOffset (publicOf sheet s)
-  pub needed : endOfPoints table s (headerBlock + k .length) ≡ length (render (publicOf sheet s))
+  pub offset : k .end ≡ newOffset (publicOf sheet s)
+  pub needed : endOfPoints table s (k .end) ≡ length (render (publicOf sheet s))
   pub points : length (keptIn table s) ≡ length (publicOf sheet s .points)
   pub records : k .count ≡ length (publicOf sheet s .records)
-  pub most : headerBlock + k .length + pointCount s * recordLength s ≤ length s
+  pub most : k .end + pointCount s * recordLength s ≤ length s
 
 pub sized : (sheet s : Bytes) → AllBytes s → fileVerdict s ≡ Passes → (table : List Bool) → TableOf sheet (format s) table
     → (k : KeptRecords) → k ≡ measured (publicOf sheet s .records) → Sized sheet s table k
 unfolding measured
 sized sheet s bytes passes table right k m =
     let points : length (keptIn table s) ≡ length (publicOf sheet s .points) = ap length (points-are sheet s bytes passes table right) in
-    let offset : headerBlock + k .length ≡ newOffset (publicOf sheet s) = rw (new-offset (publicOf sheet s)) (ap (λ (r : KeptRecords). headerBlock + r .length) m) in
+    let offset : k .end ≡ newOffset (publicOf sheet s) = rw (new-offset (publicOf sheet s)) (ap (λ (r : KeptRecords). r .end) m) in
     record {
       offset = offset;
       needed = rw (points-end, offset, points) (sym (render-length sheet s bytes passes));

@@ -1,16 +1,18 @@
 -- What the records that a sheet keeps come to.
 -- Assumes nothing.
 use mathlib.Core.List.{List, _++_}
+use Prim.Native.Nat.{_+_}
 use lib.ListN.{length}
 use Rattle.fields.specs.Lists.{total}
+use Rattle.lasfile.specs.HeaderFields.{headerBlock}
 use Rattle.lasfile.specs.Records.{Record, writtenLength}
 use Rattle.release.specs.declared.vlrs.KeptRecords.{KeptRecords}
 use Rattle.fields.specs.Bytes.{Bytes, bytesOf, zeros}
 use Rattle.fields.specs.Text.{padded}
 
--- how many records, and how long they are with their headers
+-- how many records, and where they end in a released file, behind the header
 unfoldable pub measured : List Record → KeptRecords
-measured rs = record { count = length rs; length = total (writtenLength 2) rs }
+measured rs = record { count = length rs; end = headerBlock + total (writtenLength 2) rs }
 
 -- ---- the two parts in which a record is written
 

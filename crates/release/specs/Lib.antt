@@ -2,3 +2,6 @@ pub mod Heads
 pub mod KeptRecords
 pub mod KeptPoints
 pub mod Assembly
+pub mod Filling
+pub mod Writing
+pub mod ByList

@@ -36,7 +36,7 @@ fn put_points(file: &[u8], table: &[bool; 256], start: usize, out: &mut [u8]) ->
 }
 
 // What the header says of `records` records and of a tally of points that begin at `start`.
-fn totals_of(file: &[u8], tally: Tally, records: usize, start: usize) -> HeadTotals
+pub(crate) fn totals_of(file: &[u8], tally: Tally, records: usize, start: usize) -> HeadTotals
     ensures { λ r. ⌜ r ≡ totalsOf (now (file .entry)) tally records start ⌝ }
 {
     let bins = tally.bins;

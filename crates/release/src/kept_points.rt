@@ -8,8 +8,8 @@ ghost use Rattle.release.specs.KeptPoints.{keptPoints, keptOf, picked, P
 use points::raw;
 use sheet::class_table;
 
-// What a point counts. The compiler makes no branch of it.
-fn one_if(keep: bool) -> usize
+// What a point or a record counts. The compiler makes no branch of it.
+pub(crate) fn one_if(keep: bool) -> usize
     ensures { λ r. ⌜ (r ≡ cond keep 1 0) × (r ≤ 1) ⌝ }
 {
     if keep { 1 } else { 0 }

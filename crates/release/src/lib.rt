@@ -1,22 +1,40 @@
 // The release: cuts a sample out of a LAS 1.2 file under a keep sheet, so that the output shows the public part and
-// nothing else.
+// nothing else. `cutting` lists which parts go out, and `by_list` releases from that list.
 mod assembly;
+pub mod by_list;
 mod copier;
+pub mod cutting;
+mod filling;
 mod head;
 mod kept_points;
+mod lines;
 mod vlrs;
+mod writing;
 
 ghost use mathlib.Core.Path.{_≡_};
 ghost use Prim.Native.Nat.{_+_, _*_, _^_, _<_};
+ghost use lib.ListN.{length};
 ghost use Rattle.lasfile.specs.HeaderFields.{format, pointCount, recordLength};
 ghost use Rattle.publicpart.specs.Release.{release};
 ghost use Rattle.sheet.specs.Keeping.{TableOf};
-ghost use Rattle.release.specs.Assembly.{roomAsked};
+ghost use Rattle.release.specs.Assembly.{keptIn, roomAsked};
 use fields::Verdict;
 use fields::slices;
 use lasfile::header;
 use publicpart::Answer;
 use sheet::class_table;
+
+// How many points of a file a table keeps.
+pub(crate) fn count_kept(file: &[u8], table: &[bool; 256]) -> usize
+    ensures { λ r. ⌜ r ≡ length (keptIn (now (table .entry)) (now (file .entry))) ⌝ }
+{
+    let offset = header::point_offset(file);
+    let format = header::format(file);
+    let record_length = header::record_length(file);
+    let count = header::point_count(file);
+    let run = slices::part_at(file, offset, file.len());
+    kept_points::count_points(run, format, record_length, count, table)
+}
 
 // The room that is asked of an output for points from `start` on. One with room for all the points of the file is asked
 // for that much, and the kept ones are not counted: their number comes out of the writing.
@@ -24,20 +42,17 @@ fn room_for(file: &[u8], table: &[bool; 256], start: usize, room: usize) -> usiz
     requires { ⌜ start + pointCount (now file) * recordLength (now file) < 2 ^ 64 ⌝ }
     ensures { λ r. ⌜ r ≡ roomAsked (now (table .entry)) (now (file .entry)) start room ⌝ }
 {
-    let offset = header::point_offset(file);
-    let format = header::format(file);
     let record_length = header::record_length(file);
     let count = header::point_count(file);
     let most = start + count * record_length;
     if most <= room {
         return most;
     }
-    let run = slices::part_at(file, offset, file.len());
-    start + kept_points::count_points(run, format, record_length, count, table) * record_length
+    start + count_kept(file, table) * record_length
 }
 
 // Which points of a file's format a sheet keeps.
-fn table_for(file: &[u8], sheet: &[u8]) -> [bool; 256]
+pub(crate) fn table_for(file: &[u8], sheet: &[u8]) -> [bool; 256]
     ensures { λ r. ⌜ TableOf (now (sheet .entry)) (format (now (file .entry))) r ⌝ }
 {
     class_table::class_table(sheet, header::format(file))
@@ -58,7 +73,7 @@ pub fn release(file: &[u8], sheet: &[u8], out: &mut [u8]) -> Answer
     let kept = vlrs::measure(file, sheet);
     let table = table_for(file, sheet);
     let records = kept.count;
-    let start = header::HEADER_BLOCK + kept.length;
+    let start = kept.end;
     let needed = room_for(file, &table, start, out.len());
     if out.len() < needed {
         return Answer::Short(needed);

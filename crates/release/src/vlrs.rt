@@ -23,14 +23,14 @@ use lasfile::vlr::RECORD_ID;
 use lasfile::vlr::USER_ID;
 use sheet::lookup;
 
-// How many records are kept, and how long they are with their headers.
+// How many records are kept, and where they end in a released file: its points begin there.
 pub struct KeptRecords {
     pub count: usize,
-    pub length: usize,
+    pub end: usize,
 }
 
 // Whether a sheet keeps the record.
-fn keeps(sheet: &[u8], vlr: &[u8]) -> bool
+pub(crate) fn keeps(sheet: &[u8], vlr: &[u8]) -> bool
     ensures { λ r. ⌜ r ≡ sheetKeeps (now (sheet .entry)) (recordOf 2 (now (vlr .entry))) ⌝ }
 {
     let id = number_at(vlr, RECORD_ID, 2) as u16;
@@ -59,54 +59,60 @@ pub(crate) fn measure(file: &[u8], sheet: &[u8]) -> KeptRecords
     let mut at = header::header_size(file);
     let mut left = header::record_count(file);
     let mut count = 0;
-    let mut length = 0;
+    let mut end = HEADER_BLOCK;
     while 0 < left {
         let vlr = slices::part_at(file, at, file.len());
         if keeps(sheet, vlr) {
             count += 1;
-            length += written_length(vlr);
+            end += written_length(vlr);
         }
-        at += vlr::size_at(file, at);
+        at += vlr::size_at(vlr, 0);
         left -= 1;
     }
-    KeptRecords { count, length }
+    KeptRecords { count, end }
 }
 
 // Places 0 to 19 of a record: reserved 0, user ID, record ID.
 fn put_name(vlr: &[u8], out: &mut [u8])
     ensures { λ _. ⌜ now (out .exit) ≡ sets (now (out .entry)) 0 (nameBytes (recordOf 2 (now (vlr .entry)))) ⌝ }
 {
-    slices::zero(out, 0, 2);
+    put_number(out, 0, 2, 0);
     text::put_text(out, USER_ID, 16, vlr, USER_ID);
     put_number(out, RECORD_ID, 2, number_at(vlr, RECORD_ID, 2));
 }
 
-// Places 20 on: payload length, description, payload.
-fn put_contents(vlr: &[u8], out: &mut [u8])
-    ensures { λ _. ⌜ now (out .exit) ≡ sets (now (out .entry)) 20 (contentBytes (recordOf 2 (now (vlr .entry)))) ⌝ }
+// Places 20 on: payload length, description, payload. Says where the payload ends.
+fn put_contents(vlr: &[u8], out: &mut [u8]) -> usize
+    ensures { λ r. ⌜ (r ≡ writtenLength 2 (recordOf 2 (now (vlr .entry))))
+        × (now (out .exit) ≡ sets (now (out .entry)) 20 (contentBytes (recordOf 2 (now (vlr .entry))))) ⌝ }
 {
     let payload = payload_of(vlr);
+    let end = FRONT + payload.len();
     put_number(out, PAYLOAD_LENGTH, 2, payload.len() as u64);
     text::put_text(out, DESCRIPTION, 32, vlr, DESCRIPTION);
     copying::copy(payload, out, FRONT);
+    end
 }
 
-// Writes a record to the front of `out`: reserved 0, texts padded with zeros, the payload as it is.
-fn put_record(vlr: &[u8], out: &mut [u8])
-    ensures { λ _. ⌜ now (out .exit) ≡ sets (now (out .entry)) 0 (recordBytes 2 (recordOf 2 (now (vlr .entry)))) ⌝ }
+// Writes a record to the front of `out`: reserved 0, texts padded with zeros, the payload as it is. Says its length.
+fn put_record(vlr: &[u8], out: &mut [u8]) -> usize
+    ensures { λ r. ⌜ (r ≡ writtenLength 2 (recordOf 2 (now (vlr .entry))))
+        × (now (out .exit) ≡ sets (now (out .entry)) 0 (recordBytes 2 (recordOf 2 (now (vlr .entry))))) ⌝ }
 {
     put_name(vlr, out);
-    put_contents(vlr, out);
+    put_contents(vlr, out)
 }
 
-// Writes a record to the part of `out` that starts at a place.
-fn put_record_at(vlr: &[u8], out: &mut [u8], to: usize)
-    ensures { λ _. ⌜ now (out .exit) ≡ sets (now (out .entry)) to (recordBytes 2 (recordOf 2 (now (vlr .entry)))) ⌝ }
+// Writes a record to the part of `out` that starts at a place, and says how long it is.
+pub(crate) fn put_record_at(vlr: &[u8], out: &mut [u8], to: usize) -> usize
+    ensures { λ r. ⌜ (r ≡ writtenLength 2 (recordOf 2 (now (vlr .entry))))
+        × (r < 2 ^ 17)
+        × (now (out .exit) ≡ sets (now (out .entry)) to (recordBytes 2 (recordOf 2 (now (vlr .entry))))) ⌝ }
 {
     if out.len() <= to {
-        return;
+        return written_length(vlr);
     }
-    put_record(vlr, &mut out[to..]);
+    put_record(vlr, &mut out[to..])
 }
 
 // Writes the records that a sheet keeps of a file one after the other, directly after the header.
@@ -119,10 +125,9 @@ pub(crate) fn copy_records(file: &[u8], sheet: &[u8], out: &mut [u8])
     while 0 < left {
         let vlr = slices::part_at(file, at, file.len());
         if keeps(sheet, vlr) {
-            put_record_at(vlr, out, to);
-            to += written_length(vlr);
+            to += put_record_at(vlr, out, to);
         }
-        at += vlr::size_at(file, at);
+        at += vlr::size_at(vlr, 0);
         left -= 1;
     }
 }

@@ -1,7 +1,7 @@
 -- The loop that chooses the kept records of a block by their places, apart from any code: what holds at the start,
 -- after a turn, and at the end.
 -- Assumes nothing.
-use mathlib.Core.Path.{_≡_, refl, ap, _∙_}
+use mathlib.Core.Path.{_≡_, refl, _∙_}
 use Prim.Native.Nat.{ℕ, zero, suc, _+_, _-_, _*_, _≤_, _<_}
 use native.Mathlib.Omega.{arith}
 use mathlib.Core.Bool.{Bool, true, false, cond}
@@ -11,17 +11,7 @@ use Rattle.fields.specs.Lists.{kept, consIf}
 use Rattle.fields.specs.Bytes.{Bytes, part, pieces}
 use Rattle.release.specs.KeptPoints.{picked, Places}
 use Rattle.release.proofs.kept_points.PickedLaws.{picked-one}
-use Rattle.release.proofs.kept_points.LoopLaws.{Looked, step-le, begun, done-all, ends, next}
-
--- a value put behind the first k, and counted or not
-take-put : (k : ℕ) (l : List ℕ) (v : ℕ) (b : Bool) → k < length l → take (k + cond b 1 0) (set l k v) ≡ take k l ++ consIf b v []
-unfolding consIf
-take-put k [] v b h = absurd (omega arith)
-take-put zero (x ∷ xs) v true h = refl
-take-put zero (x ∷ xs) v false h = refl
-take-put (suc k) (x ∷ xs) v b h =
-    let e : suc k + cond b 1 0 ≡ suc (k + cond b 1 0) = omega arith in
-    rw e (ap (λ (r : List ℕ). x ∷ r) (take-put k xs v b (omega arith)))
+use Rattle.release.proofs.kept_points.LoopLaws.{Looked, step-le, take-put, begun, done-all, ends, next}
 
 places-one : (w : ℕ) (run : Bytes) (ps : List ℕ) (b : Bool) (a : ℕ) → Places w run ps → a + w ≤ length run → Places w run (ps ++ consIf b a [])
 unfolding consIf

@@ -4,11 +4,12 @@ use mathlib.Core.Path.{_≡_, refl, sym, ap, _∙_}
 use Prim.Native.Nat.{ℕ, zero, suc, _+_, _-_, _*_, _≤_, _<_}
 use native.Mathlib.Omega.{arith}
 use mathlib.Core.Bool.{Bool, true, false, cond}
-use mathlib.Core.List.{List, [], _++_, append-nil, append-assoc}
-use lib.ListN.{length, take, drop, length-append}
+use mathlib.Core.List.{List, [], _∷_, _++_, append-nil, append-assoc}
+use lib.ListN.{length, take, drop, set, length-append}
 use Rattle.fields.specs.Lists.{kept, consIf}
 use Rattle.fields.specs.Bytes.{Bytes, part, pieces}
 use Rattle.fields.proofs.ByteLaws.{pieces-step}
+use Rattle.fields.proofs.ListLaws.{consIf-append}
 use Rattle.points.proofs.raw.RunLaws.{mul-step}
 
 -- the record at hand, as it is lent
@@ -20,15 +21,25 @@ pub step-le : (b : Bool) (n : ℕ) → cond b n 0 ≤ n
 step-le true n = omega arith
 step-le false n = omega arith
 
+-- ---- one thing more, which is kept or not
+
+module _ {A : Type 0} where
+  -- put behind the first k, and counted or not
+  pub take-put : (k : ℕ) (l : List A) (v : A) (b : Bool) → k < length l → take (k + cond b 1 0) (set l k v) ≡ take k l ++ consIf b v []
+  unfolding consIf
+  take-put k [] v b h = absurd (omega arith)
+  take-put zero (x ∷ xs) v true h = refl
+  take-put zero (x ∷ xs) v false h = refl
+  take-put (suc k) (x ∷ xs) v b h =
+      let e : suc k + cond b 1 0 ≡ suc (k + cond b 1 0) = omega arith in
+      rw e (ap (λ (r : List A). x ∷ r) (take-put k xs v b (omega arith)))
+
+-- ---- the run
+
 -- `left` records from `at` on are still to look at; `done` are the kept ones before them
 pub record Looked (keep : Bytes → Bool) (w count : ℕ) (run : Bytes) (done : List Bytes) (left at : ℕ) : Type 0 where
   pub within : at + left * w ≤ length run
   pub all : done ++ kept keep (pieces left w (drop at run)) ≡ kept keep (pieces count w run)
-
-cons-one : (b : Bool) (p : Bytes) (ps : List Bytes) → consIf b p [] ++ ps ≡ consIf b p ps
-unfolding consIf
-cons-one true p ps = refl
-cons-one false p ps = refl
 
 module _ (keep : Bytes → Bool) (w count : ℕ) (run : Bytes) where
   pub begun : count * w ≤ length run → Looked keep w count run [] count 0
@@ -49,7 +60,7 @@ module _ (keep : Bytes → Bool) (w count : ℕ) (run : Bytes) where
     next b e =
         record {
           within = ends;
-          all = rw (append-assoc, cons-one, e) (rw (pieces-step left w at run more) at (l .all));
+          all = rw (append-assoc, consIf-append, e) (rw (pieces-step left w at run more) at (l .all));
         }
 
 -- ---- counting

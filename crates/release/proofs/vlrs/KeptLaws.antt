@@ -54,14 +54,14 @@ module _ (sheet s : Bytes) where
 
 -- ---- measuring
 
-pub record Measuring (sheet s : Bytes) (left at count size : ℕ) : Type 0 where
+pub record Measuring (sheet s : Bytes) (left at count end : ℕ) : Type 0 where
   pub counted : count + length (rest sheet s left at) ≡ length (publicOf sheet s .records)
-  pub summed : size + total (writtenLength 2) (rest sheet s left at) ≡ total (writtenLength 2) (publicOf sheet s .records)
+  pub summed : end + total (writtenLength 2) (rest sheet s left at) ≡ headerBlock + total (writtenLength 2) (publicOf sheet s .records)
   pub few : count + left < 2 ^ 33
   pub place : Low at left
-  pub low : Low size left
+  pub low : Low end left
 
-pub measuring-begins : (sheet s : Bytes) (left at : ℕ) → (left ≡ recordCount s) × (left < 2 ^ 32) → (at ≡ headerSize s) × (at < 2 ^ 16) → Measuring sheet s left at 0 0
+pub measuring-begins : (sheet s : Bytes) (left at : ℕ) → (left ≡ recordCount s) × (left < 2 ^ 32) → (at ≡ headerSize s) × (at < 2 ^ 16) → Measuring sheet s left at 0 headerBlock
 measuring-begins sheet s left at l a =
     let all = rest-first sheet s left at (l .0) (a .0) in
     record {
@@ -72,9 +72,9 @@ measuring-begins sheet s left at l a =
       low = omega arith;
     }
 
-module _ (sheet s : Bytes) (bytes : AllBytes s) (left at count size : ℕ) (more : 0 < left) (small : sizeOf 2 (drop at s) < 2 ^ 17) (m : Measuring sheet s left at count size) where
+module _ (sheet s : Bytes) (bytes : AllBytes s) (left at count end : ℕ) (more : 0 < left) (small : sizeOf 2 (drop at s) < 2 ^ 17) (m : Measuring sheet s left at count end) where
   pub measuring-kept : sheetKeeps sheet (recordAt 2 s at) ≡ true
-      → Measuring sheet s (left - 1) (at + sizeOf 2 (drop at s)) (count + 1) (size + writtenLength 2 (recordAt 2 s at))
+      → Measuring sheet s (left - 1) (at + sizeOf 2 (drop at s)) (count + 1) (end + writtenLength 2 (recordAt 2 s at))
   unfolding total
   measuring-kept e =
       let two = rest-kept sheet s left at more e in
@@ -87,7 +87,7 @@ module _ (sheet s : Bytes) (bytes : AllBytes s) (left at count size : ℕ) (more
         low = omega (arith, m .low, short);
       }
 
-  pub measuring-past : sheetKeeps sheet (recordAt 2 s at) ≡ false → Measuring sheet s (left - 1) (at + sizeOf 2 (drop at s)) count size
+  pub measuring-past : sheetKeeps sheet (recordAt 2 s at) ≡ false → Measuring sheet s (left - 1) (at + sizeOf 2 (drop at s)) count end
   measuring-past e =
       let later = rest-past sheet s left at more e in
       record {
@@ -98,14 +98,14 @@ module _ (sheet s : Bytes) (bytes : AllBytes s) (left at count size : ℕ) (more
         low = omega (arith, m .low);
       }
 
-pub measuring-ends : (sheet s : Bytes) (left at count size : ℕ) → left ≤ 0 → Measuring sheet s left at count size
-    → _≡_ {A = KeptRecords} (record { count = count; length = size }) (measured (publicOf sheet s .records))
+pub measuring-ends : (sheet s : Bytes) (left at count end : ℕ) → left ≤ 0 → Measuring sheet s left at count end
+    → _≡_ {A = KeptRecords} (record { count = count; end = end }) (measured (publicOf sheet s .records))
 unfolding measured total
-measuring-ends sheet s left at count size h m =
+measuring-ends sheet s left at count end h m =
     let none = rest-none sheet s left at h in
     let counted : count ≡ length (publicOf sheet s .records) = omega (arith, m .counted, ap length none) in
-    let summed : size ≡ total (writtenLength 2) (publicOf sheet s .records) = omega (arith, m .summed, ap (total (writtenLength 2)) none) in
-    λ i. record { count = counted i; length = summed i }
+    let summed : end ≡ headerBlock + total (writtenLength 2) (publicOf sheet s .records) = omega (arith, m .summed, ap (total (writtenLength 2)) none) in
+    λ i. record { count = counted i; end = summed i }
 
 -- ---- copying
 

@@ -37,8 +37,8 @@ module _ (v : Bytes) (bytes : AllBytes v) where
 -- ---- the two parts, each of three fields stored one behind the other
 
 module _ (d : Bytes) (r : Record) (h : SoundRecord 2 r) where
-  pub name-stored : sets (sets (sets d 0 (zeros 2)) 2 (padded 16 (r .user))) 18 (bytesOf 2 (r .id)) ≡ sets d 0 (nameBytes r)
-  unfolding nameBytes
+  pub name-stored : sets (sets (sets d 0 (bytesOf 2 0)) 2 (padded 16 (r .user))) 18 (bytesOf 2 (r .id)) ≡ sets d 0 (nameBytes r)
+  unfolding nameBytes bytesOf
   name-stored =
       store-behind _ 2 18 16 (padded 16 (r .user)) (bytesOf 2 (r .id)) (length-padded 16 (r .user) (h .user .short)) refl
       ∙ store-behind d 0 2 2 (zeros 2) (padded 16 (r .user) ++ bytesOf 2 (r .id)) refl refl

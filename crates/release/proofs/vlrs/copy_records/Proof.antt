@@ -6,7 +6,7 @@ use mathlib.Core.Logic.{⊎-elim}
 use native.Mathlib.Omega.{arith}
 use lib.Seq.{sets}
 use Rattle.fields.specs.Bytes.{Bytes, AllBytes}
-use Rattle.lasfile.specs.Records.{recordOf, writtenLength, recordBytes}
+use Rattle.lasfile.specs.Records.{recordOf, sizeOf, writtenLength, recordBytes}
 use Rattle.publicpart.specs.Public.{sheetKeeps}
 use Rattle.fields.proofs.ByteLaws.{from-place}
 use Rattle.release.proofs.vlrs.KeptLaws.{Copying, copying-begins, copying-kept, copying-past, copying-ends}
@@ -28,7 +28,7 @@ loop-holds c =
     )
 
 add-to : tie.Need-add-to Inv-loop μ-loop
-add-to c = let l = c .before .before .before .before .before .before .before .before .before .loop in omega (arith, l .inv .1 .low, c .written-length .ensures .1)
+add-to c = let l = c .before .before .before .before .before .before .before .before .loop in omega (arith, l .inv .1 .low, c .before .before .put-record-at .ensures .1)
 
 add-at : tie.Need-add-at Inv-loop μ-loop
 add-at c = let l = c .before .before .before .before .before .loop in omega (arith, l .inv .1 .place, c .size-at .ensures .1)
@@ -44,17 +44,17 @@ loop-again c =
     let l = c .before .before .before .before .before .loop in
     let s = c .before .before .before .before .before .before .before .before .before .before .before .args .file .now in
     let sheet = c .before .before .before .before .before .before .before .before .before .before .before .args .sheet .now in
-    let size = c .size-at .ensures in
-    let small = rw (size .0) at (size .1) in
     let here = c .before .before .before .part-at .ensures ∙ from-place s (l .at) in
+    let size = c .size-at .ensures .0 ∙ ap (sizeOf 2) here in
+    let small = rw size at (c .size-at .ensures .1) in
     let keeps = c .before .before .keeps .ensures ∙ ap (λ (v : Bytes). sheetKeeps sheet (recordOf 2 v)) here in (
       l .inv .0,
       ⊎-elim
           (λ w.
-          let long = w .5 .ensures .0 ∙ ap (λ (v : Bytes). writtenLength 2 (recordOf 2 v)) here in
-          let stored = w .2 .ensures ∙ ap (λ (v : Bytes). sets (l .out) (l .to) (recordBytes 2 (recordOf 2 v))) here in
-          rw (w .6, w .7, long, size .0) (copying-kept sheet s _ _ (l .inv .0) (l .left) (l .at) (l .to) (omega arith) small (l .inv .1) _ stored (w .2 .kept .1 .0) (sym keeps ∙ w .0 .taken)))
-          (λ w. rw (w .1, w .2, size .0) (copying-past sheet s _ _ (l .inv .0) (l .left) (l .at) (l .to) (omega arith) small (l .inv .1) (sym keeps ∙ w .0 .left)))
+          let long = w .2 .ensures .0 ∙ ap (λ (v : Bytes). writtenLength 2 (recordOf 2 v)) here in
+          let stored = w .2 .ensures .2 ∙ ap (λ (v : Bytes). sets (l .out) (l .to) (recordBytes 2 (recordOf 2 v))) here in
+          rw (w .5, w .6, long, size) (copying-kept sheet s _ _ (l .inv .0) (l .left) (l .at) (l .to) (omega arith) small (l .inv .1) _ stored (w .2 .kept .1 .0) (sym keeps ∙ w .0 .taken)))
+          (λ w. rw (w .1, w .2, size) (copying-past sheet s _ _ (l .inv .0) (l .left) (l .at) (l .to) (omega arith) small (l .inv .1) (sym keeps ∙ w .0 .left)))
           (c .before .if1 .came),
     )
 
@@ -75,7 +75,6 @@ copy-records-spec =
     (λ c κs. tt)
     (λ c κs. tt)
     loop-holds
-    (λ c κs. tt)
     (λ c κs. tt)
     (λ c κs. tt)
     (λ c κs. tt)

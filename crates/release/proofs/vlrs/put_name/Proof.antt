@@ -20,10 +20,10 @@ returns c =
     let r : Record = recordOf 2 v in
     let id : bytesOf 2 (c .before .before .before .number-at .result) ≡ bytesOf 2 (r .id) = ap (bytesOf 2) (c .before .before .before .number-at .ensures .0 ∙ sym (id-of 2 v)) in
     let put = c .before .before .before .before .before .before .before in
-    let user : put .put-text .last .0 ≡ sets (c .before .before .before .before .before .before .before .before .before .before .before .zero .last .0) 2 (padded 16 (r .user)) =
-    put .put-text .ensures ∙ ap (λ (t : Bytes). sets (c .before .before .before .before .before .before .before .before .before .before .before .zero .last .0) 2 (padded 16 t)) (sym (user-of 2 v)) in
-    c .before .before .put-number .ensures
-    ∙ rw (user, c .before .before .before .before .before .before .before .before .before .before .before .zero .ensures, id) (name-stored (now (a .out)) r (sound v bytes))
+    let user : put .put-text .last .0 ≡ sets (c .before .before .before .before .before .before .before .before .before .before .before .put-number .last .0) 2 (padded 16 (r .user)) =
+    put .put-text .ensures ∙ ap (λ (t : Bytes). sets (c .before .before .before .before .before .before .before .before .before .before .before .put-number .last .0) 2 (padded 16 t)) (sym (user-of 2 v)) in
+    c .before .before .put-number2 .ensures
+    ∙ rw (user, c .before .before .before .before .before .before .before .before .before .before .before .put-number .ensures, id) (name-stored (now (a .out)) r (sound v bytes))
 
 pub put-name-spec : {M : Type 1} → statement M
 put-name-spec =

@@ -1,0 +1,4 @@
+mod ByListLaws
+mod DecideLaws
+mod FinishLaws
+mod OutputLaws

@@ -1,0 +1,3 @@
+mod FillingIn
+pub mod ListLaws
+mod TableLaws

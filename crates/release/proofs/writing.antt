@@ -1,0 +1,2 @@
+pub mod ItemLaws
+mod WritingIn
