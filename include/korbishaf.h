@@ -1,10 +1,10 @@
 /*
  * korbishaf.h: Korbishaf for C and C++.
  *
- * Korbishaf reads LAS 1.2 files (point formats 0 to 3), mends their headers and
- * releases samples of them under a keep sheet. Link with libcapi.a, which
- * `rt staticlib capi` writes to target/staticlib, or with -lkorbishaf where
- * `./install` has put it.
+ * Korbishaf reads LAS 1.2 files (point formats 0 to 3), mends their headers,
+ * releases samples of them under a keep sheet and lists which parts go out. Link
+ * with libcapi.a, which `rt staticlib capi` writes to target/staticlib, or with
+ * -lkorbishaf where `./install` has put it.
  *
  * Rules that hold for every function:
  *
@@ -12,8 +12,11 @@
  *   the length is 0 the pointer is not looked at and may be null; otherwise it
  *   points to that many bytes.
  * - Any bytes may be passed: nothing here panics or fails to return.
- * - `out` and `room` are lent to be written to and overlap no other argument,
- *   and las_mend writes to its `file`. All else is only read.
+ * - `out`, `room` and `list` are lent to be written to and overlap no other
+ *   argument, and las_mend writes to its `file`. All else is only read.
+ * - A list passes as a pointer to its lines and then their number, under the same
+ *   rule: where the number is 0 the pointer may be null. It is aligned as a
+ *   las_line is, to 8 bytes.
  * - `number` is 0 for an answer and otherwise says why there is none (see the
  *   table). The first check that fails is the one that is given. On a refusal
  *   every field but `number` is 0, and all that is lent is unchanged.
@@ -55,8 +58,9 @@
  *   22  a line is cut: fewer than 3 bytes are left, or its body is not whole
  *   23  the lowest class of a line is above its highest
  *   24  a 65th line begins
- *       The release:
- *   30  the output is shorter than the released file
+ *       The release and the cutting list:
+ *   30  the output is shorter than the released file (after 31)
+ *   31  the list has fewer lines than there are kept records and kept points
  *       GeoKeys:
  *   40  no record "LASF_Projection" 34735, the key directory
  *   41  the key directory is under 8 bytes, does not begin 1, 1, 0, or is shorter
@@ -86,6 +90,18 @@ typedef struct {
     uint64_t points;  /* kept points */
     uint64_t records; /* kept variable length records */
 } las_released;
+
+/* A line of a cutting list: a part of the file. */
+typedef struct {
+    uint64_t place;
+    uint64_t length;
+} las_line;
+
+/* What a cutting list answers. */
+typedef struct {
+    uint64_t number;
+    uint64_t lines; /* kept records and kept points together */
+} las_listed;
 
 /* One variable length record: places in the file, cut lengths, and where the next step goes. */
 typedef struct {
@@ -184,7 +200,8 @@ typedef struct {
 /* The functions. Any pointer may be null where the length after it is 0. */
 
 /* The number of the last change request that is in: 0 for the base, 1 with las_mend, 2 where a text's cut has no spaces
- * at its end, 3 where a class has no flags in it and withheld points are never released, 4 with las_class_test. */
+ * at its end, 3 where a class has no flags in it and withheld points are never released, 4 with las_class_test, 5 with
+ * las_cutting_list and las_release_by_list. */
 uint64_t las_level(void);
 
 /* 0 if the file passes, otherwise 1 to 10. */
@@ -241,6 +258,22 @@ las_geokey las_geokey_find(const uint8_t *file, uint64_t file_length, uint16_t k
  * Numbers: 1 to 10, 20 to 24, 30. */
 las_released las_release(const uint8_t *file, uint64_t file_length, const uint8_t *sheet, uint64_t sheet_length,
                          uint8_t *out, uint64_t out_length);
+
+/* Fills the list with the parts of the file that a release takes: a line for the payload of every kept record, and then
+ * one for every kept point, in the file's order. A payload's line has its place behind the record's header, and the
+ * length 0 where the payload is empty. Lines lie in the file, their places never fall, and no two overlap. Those behind
+ * the last stay as they were. `list_length` counts lines; as many as the header's records and points together are
+ * always enough. The list says where things stand, so it is for whoever has the file, and not for the buyer.
+ * Numbers: 1 to 10, 20 to 24, 31. */
+las_listed las_cutting_list(const uint8_t *file, uint64_t file_length, const uint8_t *sheet, uint64_t sheet_length,
+                            las_line *list, uint64_t list_length);
+
+/* A second, plain way to release: fills the list as las_cutting_list does, and writes from it. Where the list is long
+ * enough, answer and output are those of las_release. On a refusal `out` and `list` stay as they were.
+ * Numbers: 1 to 10, 20 to 24, 31, 30, in this order. */
+las_released las_release_by_list(const uint8_t *file, uint64_t file_length, const uint8_t *sheet,
+                                 uint64_t sheet_length, uint8_t *out, uint64_t out_length, las_line *list,
+                                 uint64_t list_length);
 
 /* Mends what the header states of the points, in the file itself, and says which of the twelve fields changed. The
  * number of points becomes the smaller of the stated number and the whole records that fit after the point offset.

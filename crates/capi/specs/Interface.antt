@@ -2,6 +2,7 @@
 -- afterwards.
 -- Assumes nothing.
 use Prim.Native.Nat.{ℕ}
+use mathlib.Core.List.{List}
 use lib.IntN.{ℤ}
 use lib.Ieee.{binary64, ofBits}
 use Rattle.fields.specs.Bytes.{Bytes}
@@ -17,9 +18,12 @@ use Rattle.sheet.specs.Sheet.{sheetVerdict}
 use Rattle.sheet.specs.Keeping.{classKept, recordKept, classTest}
 use Rattle.geokeys.specs.GeoKeys.{lookup}
 use Rattle.publicpart.specs.Release.{release}
+use Rattle.publicpart.specs.declared.Span.{Span}
+use Rattle.publicpart.specs.Cutting.{cuttingList, releaseByList}
 use Rattle.editor.specs.Mend.{mend}
-use Rattle.capi.specs.Answers.{releasedNumbers, keptNumbers, testedNumbers, mendedNumbers}
+use Rattle.capi.specs.Answers.{releasedNumbers, listedNumbers, keptNumbers, testedNumbers, mendedNumbers}
 use Rattle.capi.specs.declared.answers.«las_released».{«las_released»}
+use Rattle.capi.specs.declared.answers.«las_listed».{«las_listed»}
 use Rattle.capi.specs.declared.answers.«las_kept».{«las_kept»}
 use Rattle.capi.specs.declared.answers.«las_class_line».{«las_class_line»}
 use Rattle.capi.specs.declared.answers.«las_mended».{«las_mended»}
@@ -32,7 +36,7 @@ use Rattle.capi.specs.HeaderAnswers.{headerNumbers}
 use Rattle.capi.specs.declared.header.«las_header».{«las_header»}
 
 unfoldable pub lasLevel : ℕ
-lasLevel = 4
+lasLevel = 5
 
 unfoldable pub lasCheckFile : Bytes → ℕ
 lasCheckFile file = numberOf (fileVerdict file)
@@ -75,6 +79,15 @@ lasGeokeyFind file key = geokeyNumbers (lookup file key)
 -- the numbers, and the output afterwards
 unfoldable pub lasRelease : Bytes → Bytes → Bytes → «las_released» × Bytes
 lasRelease file sheet out = let r = release sheet file out in (releasedNumbers (r .0), r .1)
+
+-- the numbers, and the list afterwards
+unfoldable pub lasCuttingList : Bytes → Bytes → List Span → «las_listed» × List Span
+lasCuttingList file sheet list = let c = cuttingList sheet file list in (listedNumbers (c .0), c .1)
+
+-- the numbers, the output and the list afterwards
+unfoldable pub lasReleaseByList : Bytes → Bytes → Bytes → List Span → («las_released» × Bytes) × List Span
+lasReleaseByList file sheet out list =
+    let r = releaseByList sheet file out list in ((releasedNumbers (r .0 .0), r .0 .1), r .1)
 
 -- the numbers, and the file afterwards
 unfoldable pub lasMend : Bytes → «las_mended» × Bytes

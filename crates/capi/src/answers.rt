@@ -1,7 +1,7 @@
 // Answers of the library as structs of numbers with C's layout: the refusal's number first, 0 where it is accepted.
 ghost use mathlib.Core.Path.{_≡_};
 ghost use Rattle.fields.specs.Checks.{numberOf};
-ghost use Rattle.capi.specs.Answers.{releasedNumbers, keptNumbers, testedNumbers, markNumbers, mendedNumbers};
+ghost use Rattle.capi.specs.Answers.{releasedNumbers, listedNumbers, keptNumbers, testedNumbers, markNumbers, mendedNumbers};
 use editor::mend;
 use fields::refusals;
 use sheet::answers;
@@ -12,6 +12,12 @@ pub struct las_released {
     pub length: u64,
     pub points: u64,
     pub records: u64,
+}
+
+#[repr(C)]
+pub struct las_listed {
+    pub number: u64,
+    pub lines: u64,
 }
 
 #[repr(C)]
@@ -74,6 +80,19 @@ pub(crate) fn released_numbers(answer: publicpart::Answer) -> las_released
         publicpart::Answer::Released(length, points, records) => released(length, points, records),
         publicpart::Answer::Short(needed) => refused(refusals::OUTPUT_TOO_SHORT, needed),
         publicpart::Answer::Refused(number) => refused(number, 0),
+    }
+}
+
+// The numbers of a cutting list.
+pub(crate) fn listed_numbers(listed: publicpart::Listed) -> las_listed
+    ensures { λ r. ⌜ r ≡ listedNumbers listed ⌝ }
+{
+    match listed {
+        publicpart::Listed::Lines(lines) => las_listed {
+            number: 0,
+            lines: lines as u64,
+        },
+        publicpart::Listed::Refused(number) => las_listed { number, lines: 0 },
     }
 }
 

@@ -1,17 +1,19 @@
 // The interface for other languages: each function calls the library's and hands its answer back as numbers. A lent
-// `out` or `room` overlaps no other argument.
+// `out`, `room` or `list` overlaps no other argument.
 pub mod answers;
 pub mod header;
 pub mod point;
 pub mod vlr;
 
 ghost use mathlib.Core.Path.{_≡_};
-ghost use Rattle.capi.specs.Interface.{lasLevel, lasCheckFile, lasCheckSheet, lasReadHeader, lasVlrStep, lasPointAt, lasDecode, lasEncode, lasCoordinate, lasClassKept, lasClassTest, lasRecordKept, lasGeokeyFind, lasRelease, lasMend};
+ghost use Rattle.capi.specs.Interface.{lasLevel, lasCheckFile, lasCheckSheet, lasReadHeader, lasVlrStep, lasPointAt, lasDecode, lasEncode, lasCoordinate, lasClassKept, lasClassTest, lasRecordKept, lasGeokeyFind, lasRelease, lasCuttingList, lasReleaseByList, lasMend};
 use crate::answers::kept_numbers;
 use crate::answers::las_class_line;
 use crate::answers::las_kept;
+use crate::answers::las_listed;
 use crate::answers::las_mended;
 use crate::answers::las_released;
+use crate::answers::listed_numbers;
 use crate::answers::mended_numbers;
 use crate::answers::number_of;
 use crate::answers::released_numbers;
@@ -31,9 +33,12 @@ use geokeys::find;
 use lasfile::check_file;
 use points::decode;
 use points::encoding::encode;
+use publicpart::Span;
 use reader::cursor::VlrCursor;
 use reader::header::read_header;
 use reader::point::point_at;
+use release::by_list::release_by_list;
+use release::cutting::cutting_list;
 use release::release;
 use scaling::doubles::coordinate_bits;
 use sheet::answers::class_kept;
@@ -46,7 +51,7 @@ use sheet::check_sheet;
 pub extern "C" fn las_level() -> u64
     ensures { λ r. ⌜ r ≡ lasLevel ⌝ }
 {
-    4
+    5
 }
 
 #[no_mangle]
@@ -150,6 +155,29 @@ pub extern "C" fn las_release(file: &[u8], sheet: &[u8], out: &mut [u8]) -> las_
     ensures { λ r. ⌜ (r, now (out .exit)) ≡ lasRelease (now (file .entry)) (now (sheet .entry)) (now (out .entry)) ⌝ }
 {
     released_numbers(release(file, sheet, out))
+}
+
+// Changes the list only where it answers 0.
+#[no_mangle]
+pub extern "C" fn las_cutting_list(file: &[u8], sheet: &[u8], list: &mut [Span]) -> las_listed
+    ensures { λ r. ⌜
+        (r, now (list .exit)) ≡ lasCuttingList (now (file .entry)) (now (sheet .entry)) (now (list .entry)) ⌝ }
+{
+    listed_numbers(cutting_list(file, sheet, list))
+}
+
+// Changes output and list only where it answers 0.
+#[no_mangle]
+pub extern "C" fn las_release_by_list(
+    file: &[u8],
+    sheet: &[u8],
+    out: &mut [u8],
+    list: &mut [Span],
+) -> las_released
+    ensures { λ r. ⌜ ((r, now (out .exit)), now (list .exit))
+        ≡ lasReleaseByList (now (file .entry)) (now (sheet .entry)) (now (out .entry)) (now (list .entry)) ⌝ }
+{
+    released_numbers(release_by_list(file, sheet, out, list))
 }
 
 // Changes the file only where it answers 0.
