@@ -4,7 +4,7 @@
 use mathlib.Core.Path.{_≡_, refl, sym, ap, _∙_}
 use Prim.Native.Nat.{ℕ, zero, suc}
 use native.Mathlib.Omega.{arith}
-use mathlib.Core.Bool.{Bool, true, false}
+use mathlib.Core.Bool.{Bool, true, false, true≢false}
 use mathlib.Core.List.{List, [], _∷_, _++_}
 use mathlib.Core.Option.{Option, none, some}
 use lib.ListN.{length, replicate}
@@ -46,14 +46,19 @@ use Rattle.sheet.specs.declared.answers.Tested.the-variants as tested
 use Rattle.fields.specs.Text.{cut}
 use Rattle.publicpart.specs.Public.{publicOf}
 use Rattle.publicpart.specs.Release.{Outcome, refuseOr, shortOr, accepted, roomOr, release}
+use Rattle.publicpart.specs.declared.Span.{Span}
+use Rattle.publicpart.specs.declared.Listed.{Listed}
+use Rattle.publicpart.specs.declared.Listed.the-variants as listed
+use Rattle.publicpart.specs.Cutting.{cuttingLines, listVerdict, listUnder, cuttingList, fillUnless, byListUnder, releaseByList}
+use Rattle.publicpart.proofs.CuttingLaws.{by-list-is}
 use Rattle.editor.specs.Mend.{mendBy, mend}
-use Rattle.capi.specs.Answers.{releasedNumbers, keptNumbers, testedNumbers, markNumbers, mendedNumbers}
+use Rattle.capi.specs.Answers.{releasedNumbers, listedNumbers, keptNumbers, testedNumbers, markNumbers, mendedNumbers}
 use Rattle.capi.specs.RecordAnswers.{foundRecord, noRecord, recordNumbers, geokeyNumbers}
 use Rattle.capi.specs.PointAnswers.{foundPoint, noPoint, pointNumbers, decodedNumbers, givenPoint}
 use Rattle.capi.specs.HeaderAnswers.{foundHeader, noHeader, headerNumbers}
-use Rattle.capi.specs.Interface.{lasCheckFile, lasCheckSheet, lasReadHeader, lasVlrStep, lasPointAt, lasDecode, lasEncode, lasClassKept, lasClassTest, lasRecordKept, lasGeokeyFind, lasRelease, lasMend}
-use Rattle.theorems.specs.Terms.{needed, refusal}
-use Rattle.theorems.specs.Tables.{ByTable, linesChecks, sheetChecks, isSome, chosen, valueChecks, parameterChecks, entryTable, keyTable, directoryTable, lookupChecks, releaseChecks}
+use Rattle.capi.specs.Interface.{lasCheckFile, lasCheckSheet, lasReadHeader, lasVlrStep, lasPointAt, lasDecode, lasEncode, lasClassKept, lasClassTest, lasRecordKept, lasGeokeyFind, lasRelease, lasCuttingList, lasReleaseByList, lasMend}
+use Rattle.theorems.specs.Terms.{needed, enough, refusal}
+use Rattle.theorems.specs.Tables.{ByTable, linesChecks, sheetChecks, isSome, chosen, valueChecks, parameterChecks, entryTable, keyTable, directoryTable, lookupChecks, releaseChecks, listChecks, byListChecks}
 use Rattle.theorems.specs.Demand1.{NothingChanged, ZerosBeside, EachNumber, Demand1}
 use Rattle.theorems.specs.ZeroWhereAccepted.{isReleased, isZero}
 use Rattle.theorems.proofs.sheet.TestLaws.{numbers-under}
@@ -90,6 +95,48 @@ numbered-out (Fails c) short? m out o n h e = refl
 numbered-out Passes true m out o n h e = refl
 numbered-out Passes false m out o n h e = absurd (omega arith)
 
+-- a list under a verdict
+listed-not : (v : Verdict) (lines list : List Span) (n : ℕ) → listUnder v lines list .0 ≡ listed.Refused n → listUnder v lines list .1 ≡ list
+unfolding listUnder
+listed-not Passes lines list n e = let z : _≡_ {A = ℕ} 0 1 = cc in absurd (omega arith)
+listed-not (Fails m) lines list n e = refl
+
+listed-numbered : (v : Verdict) (lines list : List Span) (n : ℕ) → listedNumbers (listUnder v lines list .0) .number ≡ suc n → listUnder v lines list .1 ≡ list
+unfolding listUnder listedNumbers
+listed-numbered Passes lines list n e = absurd (omega arith)
+listed-numbered (Fails m) lines list n e = refl
+
+-- a release by a list under a verdict, too short or not
+by-list-not : (v : Verdict) (short? : Bool) (m : ℕ) (out : Bytes) (o : Outcome) (lines list : List Span) → isReleased (o .0) ≡ true
+    → let x = byListUnder v out list (shortOr short? m out o, fillUnless short? lines list) in
+    isReleased (x .0 .0) ≡ false → (x .0 .1 ≡ out) × (x .1 ≡ list)
+unfolding byListUnder shortOr fillUnless
+by-list-not (Fails n) short? m out o lines list h e = (refl, refl)
+by-list-not Passes true m out o lines list h e = (refl, refl)
+by-list-not Passes false m out o lines list h e = absurd (true≢false (sym h ∙ e))
+
+by-list-numbered : (v : Verdict) (short? : Bool) (m : ℕ) (out : Bytes) (o : Outcome) (lines list : List Span) (n : ℕ) → releasedNumbers (o .0) .number ≡ 0
+    → let x = byListUnder v out list (shortOr short? m out o, fillUnless short? lines list) in
+    releasedNumbers (x .0 .0) .number ≡ suc n → (x .0 .1 ≡ out) × (x .1 ≡ list)
+unfolding byListUnder shortOr fillUnless
+by-list-numbered (Fails c) short? m out o lines list n h e = (refl, refl)
+by-list-numbered Passes true m out o lines list n h e = (refl, refl)
+by-list-numbered Passes false m out o lines list n h e = absurd (omega arith)
+
+not-by-list : (sheet file out : Bytes) (list : List Span) → isReleased (releaseByList sheet file out list .0 .0) ≡ false
+    → (releaseByList sheet file out list .0 .1 ≡ out) × (releaseByList sheet file out list .1 ≡ list)
+unfolding roomOr accepted isReleased
+not-by-list sheet file out list =
+    rw (by-list-is sheet file out list)
+    (by-list-not (listVerdict sheet file (length list)) _ _ out (accepted (publicOf sheet file) (length out)) (cuttingLines sheet file) list refl)
+
+numbered-by-list : (sheet file out : Bytes) (list : List Span) (n : ℕ) → releasedNumbers (releaseByList sheet file out list .0 .0) .number ≡ suc n
+    → (releaseByList sheet file out list .0 .1 ≡ out) × (releaseByList sheet file out list .1 ≡ list)
+unfolding roomOr accepted releasedNumbers
+numbered-by-list sheet file out list n =
+    rw (by-list-is sheet file out list)
+    (by-list-numbered (listVerdict sheet file (length list)) _ _ out (accepted (publicOf sheet file) (length out)) (cuttingLines sheet file) list n refl)
+
 mended-not : (v : Verdict) (s : Bytes) (n : ℕ) → mendBy v s .0 .verdict ≡ Fails n → mendBy v s .1 ≡ s
 unfolding mendBy
 mended-not Passes s n e = let z : _≡_ {A = ℕ} 0 1 = cc in absurd (omega arith)
@@ -101,14 +148,19 @@ mended-numbered Passes s n e = absurd (omega arith)
 mended-numbered (Fails m) s n e = refl
 
 nothing-changed : NothingChanged
-unfolding encoding.encoded release roomOr accepted mend isReleased lasEncode lasRelease lasMend releasedNumbers
+unfolding encoding.encoded release roomOr accepted cuttingList mend isReleased lasEncode lasRelease lasCuttingList lasReleaseByList lasMend releasedNumbers
 nothing-changed =
     record {
       encode = λ format len q room n e. stored-not _ _ room n e;
       release = λ sheet file out e. not-released _ _ _ out (accepted (publicOf sheet file) (length out)) refl e;
+      cutting-list = λ sheet file list n e. listed-not (listVerdict sheet file (length list)) (cuttingLines sheet file) list n e;
+      release-by-list = not-by-list;
       mend = λ file n e. mended-not (mendVerdict file) file n e;
       las-encode = λ format len p room n e. stored-numbered _ _ room _ e;
       las-release = λ file sheet out n e. numbered-out _ _ _ out (accepted (publicOf sheet file) (length out)) _ refl e;
+      las-cutting-list =
+          λ file sheet list n e. listed-numbered (listVerdict sheet file (length list)) (cuttingLines sheet file) list _ e;
+      las-release-by-list = λ file sheet out list n e. numbered-by-list sheet file out list _ e;
       las-mend = λ file n e. mended-numbered (mendVerdict file) file n e;
     }
 
@@ -145,6 +197,11 @@ unfolding keptUnder keptNumbers numberOf
 kept-number Passes true = refl
 kept-number Passes false = refl
 kept-number (Fails n) kept = refl
+
+listed-number : (v : Verdict) (lines list : List Span) → listedNumbers (listUnder v lines list .0) .number ≡ numberOf v
+unfolding listUnder listedNumbers numberOf
+listed-number Passes lines list = refl
+listed-number (Fails n) lines list = refl
 
 mended-number : (v : Verdict) (s : Bytes) → mendedNumbers (mendBy v s .0) .number ≡ numberOf v
 unfolding mendBy mendedNumbers
@@ -341,6 +398,49 @@ released-number file sheet out =
     (then-then (fileVerdict file) (sheetVerdict sheet) (failIf (ltb (length out) (needed sheet file)) 30 Passes)
     ∙ ap (then (fileVerdict file)) (unfold firstFailing fails in behind-sheet sheet file out))
 
+-- ---- a list, and a release by it
+
+abbrev lineChecksOf : Bytes → Bytes → List Span → List Check
+lineChecksOf sheet file list = (31, length list below enough sheet file) ∷ []
+
+-- tables behind the file's and the sheet's
+behind-both : (sheet file : Bytes) (cs : List Check)
+    → then (then (fileVerdict file) (sheetVerdict sheet)) (firstFailing cs) ≡ then (fileVerdict file) (firstFailing (sheetChecks sheet ++ cs))
+behind-both sheet file cs =
+    then-then (fileVerdict file) (sheetVerdict sheet) (firstFailing cs)
+    ∙ ap (then (fileVerdict file)) (rw (sheet-first sheet) (sym (joined (sheetChecks sheet) cs)))
+
+list-first : (sheet file : Bytes) (list : List Span) → listVerdict sheet file (length list) ≡ then (fileVerdict file) (firstFailing (sheetChecks sheet ++ lineChecksOf sheet file list))
+unfolding listVerdict
+list-first sheet file list = unfold firstFailing fails in behind-both sheet file (lineChecksOf sheet file list)
+
+-- 30 behind 31
+room-behind : (v : Verdict) (b short? : Bool) → then v (failIf b 31 (failIf short? 30 Passes)) ≡ then (then v (failIf b 31 Passes)) (failIf short? 30 Passes)
+unfolding then failIf
+room-behind (Fails n) b short? = refl
+room-behind Passes true short? = refl
+room-behind Passes false short? = refl
+
+by-list-number : (v : Verdict) (short? : Bool) (m : ℕ) (out : Bytes) (o : Outcome) (lines list : List Span) → releasedNumbers (o .0) .number ≡ 0
+    → releasedNumbers (byListUnder v out list (shortOr short? m out o, fillUnless short? lines list) .0 .0) .number ≡ numberOf (then v (failIf short? 30 Passes))
+unfolding byListUnder shortOr releasedNumbers numberOf then failIf
+by-list-number (Fails n) short? m out o lines list h = refl
+by-list-number Passes true m out o lines list h = refl
+by-list-number Passes false m out o lines list h = h
+
+abbrev bothChecks : Bytes → Bytes → Bytes → List Span → List Check
+bothChecks sheet file out list = (31, length list below enough sheet file) ∷ roomChecks sheet file out
+
+listed-released : (file sheet out : Bytes) (list : List Span) → releasedNumbers (releaseByList sheet file out list .0 .0) .number
+    ≡ numberOf (then (fileVerdict file) (firstFailing (sheetChecks sheet ++ bothChecks sheet file out list)))
+unfolding roomOr listVerdict
+listed-released file sheet out list =
+    ap (λ o. releasedNumbers (o .0 .0) .number) (by-list-is sheet file out list)
+    ∙ by-list-number _ (ltb (length out) (needed sheet file)) (needed sheet file) out (accepted (publicOf sheet file) (length out)) (cuttingLines sheet file) list (unfold accepted releasedNumbers in refl)
+    ∙ ap numberOf
+    (sym (room-behind (then (fileVerdict file) (sheetVerdict sheet)) (ltb (length list) (enough sheet file)) (ltb (length out) (needed sheet file)))
+    ∙ unfold firstFailing fails in behind-both sheet file (bothChecks sheet file out list))
+
 -- ---- zeros beside a refusal
 
 header-zeros : (a : HeaderRead) (n : ℕ) → headerNumbers a .number ≡ suc n → headerNumbers a ≡ noHeader (suc n)
@@ -408,6 +508,30 @@ release-zeros (Fails c) short? m out o n h other e = rw (← e, other c refl)
 release-zeros Passes true m out o n h other e = rw (← e)
 release-zeros Passes false m out o n h other e = absurd (omega arith)
 
+listed-zeros : (a : Listed) (n : ℕ) → listedNumbers a .number ≡ suc n → listedNumbers a ≡ record { number = suc n; lines = 0 }
+unfolding listedNumbers
+listed-zeros (listed.Lines m) n e = absurd (omega arith)
+listed-zeros (listed.Refused m) n e = λ i. record { number = e i; lines = 0 }
+
+-- 31 is not 30 either
+list-not-30 : (sheet file : Bytes) (list : List Span) (n : ℕ) → listVerdict sheet file (length list) ≡ Fails n → eqb n 30 ≡ false
+unfolding listVerdict then failIf
+list-not-30 sheet file list n e = decide (then (fileVerdict file) (sheetVerdict sheet)) (ltb (length list) (enough sheet file)) (not-30 sheet file n) e
+  where
+    decide : (v : Verdict) (b : Bool) → (v ≡ Fails n → eqb n 30 ≡ false) → then v (failIf b 31 Passes) ≡ Fails n → eqb n 30 ≡ false
+    decide (Fails m) b h e = h e
+    decide Passes true h e = let f : 31 ≡ n = cc in rw (← f)
+    decide Passes false h e = let z : _≡_ {A = ℕ} 0 1 = cc in absurd (omega arith)
+
+by-list-zeros : (v : Verdict) (short? : Bool) (m : ℕ) (out : Bytes) (o : Outcome) (lines list : List Span) (n : ℕ) → releasedNumbers (o .0) .number ≡ 0
+    → ((c : ℕ) → v ≡ Fails c → eqb c 30 ≡ false)
+    → let x = byListUnder v out list (shortOr short? m out o, fillUnless short? lines list) in
+    releasedNumbers (x .0 .0) .number ≡ suc n → releasedNumbers (x .0 .0) ≡ refusal (suc n) m
+unfolding byListUnder shortOr releasedNumbers refusal
+by-list-zeros (Fails c) short? m out o lines list n h other e = rw (← e, other c refl)
+by-list-zeros Passes true m out o lines list n h other e = rw (← e)
+by-list-zeros Passes false m out o lines list n h other e = absurd (omega arith)
+
 mend-zeros : (v : Verdict) (s : Bytes) (n : ℕ) → mendedNumbers (mendBy v s .0) .number ≡ suc n
     → mendedNumbers (mendBy v s .0) ≡ record { number = suc n; marks = replicate 12 0 }
 unfolding mendBy mendedNumbers markNumbers numberOf
@@ -415,7 +539,7 @@ mend-zeros Passes s n e = absurd (omega arith)
 mend-zeros (Fails m) s n e = λ i. record { number = e i; marks = replicate 12 0 }
 
 zeros-beside : ZerosBeside
-unfolding lasReadHeader lasVlrStep lasPointAt lasDecode lasClassKept lasClassTest lasRecordKept lasGeokeyFind lasRelease lasMend release roomOr mend
+unfolding lasReadHeader lasVlrStep lasPointAt lasDecode lasClassKept lasClassTest lasRecordKept lasGeokeyFind lasRelease lasCuttingList lasReleaseByList lasMend release roomOr cuttingList mend
 zeros-beside =
     record {
       read-header = λ file n e. header-zeros (header.headerRead file) n e;
@@ -431,14 +555,21 @@ zeros-beside =
           λ file sheet out n e.
           release-zeros (then (fileVerdict file) (sheetVerdict sheet)) (ltb (length out) (needed sheet file)) (needed sheet file) out
           (accepted (publicOf sheet file) (length out)) n (unfold accepted releasedNumbers in refl) (not-30 sheet file) e;
+      cutting-list = λ file sheet list n e. listed-zeros (cuttingList sheet file list .0) n e;
+      release-by-list =
+          λ file sheet out list n.
+          rw (by-list-is sheet file out list)
+          (λ e.
+          by-list-zeros (listVerdict sheet file (length list)) (ltb (length out) (needed sheet file)) (needed sheet file) out
+          (accepted (publicOf sheet file) (length out)) (cuttingLines sheet file) list n (unfold accepted releasedNumbers in refl) (list-not-30 sheet file list) e);
       mend = λ file n e. mend-zeros (mendVerdict file) file n e;
     }
 
 -- ---- all of them
 
 each-number : EachNumber
-unfolding lasCheckFile lasCheckSheet lasReadHeader lasVlrStep lasPointAt lasDecode lasEncode lasClassKept lasClassTest lasRecordKept lasGeokeyFind lasRelease lasMend
-    mend mendVerdict kept consIf header.headerRead stepOf pointAtOf points.decoded encoding.encoded points.decodeChecks encoding.encodeChecks releaseChecks Without isZero
+unfolding lasCheckFile lasCheckSheet lasReadHeader lasVlrStep lasPointAt lasDecode lasEncode lasClassKept lasClassTest lasRecordKept lasGeokeyFind lasRelease lasCuttingList lasReleaseByList lasMend
+    cuttingList mend mendVerdict kept consIf header.headerRead stepOf pointAtOf points.decoded encoding.encoded points.decodeChecks encoding.encodeChecks releaseChecks listChecks byListChecks Without isZero
 each-number =
     record {
       check-file = λ file. follows (numberOf (fileVerdict file)) (fileChecks file) (file-above file) (ap numberOf (file-first file));
@@ -460,6 +591,15 @@ each-number =
           λ file sheet out.
           behind-file file (sheetChecks sheet ++ roomChecks sheet file out) _
           (without-both 0 (sheetChecks sheet) (roomChecks sheet file out) (sheet-above sheet) (refl, tt)) (released-number file sheet out);
+      cutting-list =
+          λ file sheet list.
+          behind-file file (sheetChecks sheet ++ lineChecksOf sheet file list) _
+          (without-both 0 (sheetChecks sheet) (lineChecksOf sheet file list) (sheet-above sheet) (refl, tt))
+          (listed-number (listVerdict sheet file (length list)) (cuttingLines sheet file) list ∙ ap numberOf (list-first sheet file list));
+      release-by-list =
+          λ file sheet out list.
+          behind-file file (sheetChecks sheet ++ bothChecks sheet file out list) _
+          (without-both 0 (sheetChecks sheet) (bothChecks sheet file out list) (sheet-above sheet) (refl, (refl, tt))) (listed-released file sheet out list);
       mend =
           λ file.
           follows _ (mendChecks file) (refl, (refl, (refl, (refl, (refl, (refl, (refl, (refl, (refl, tt))))))))) (mended-number (mendVerdict file) file);

@@ -30,7 +30,7 @@ use Rattle.sheet.specs.Sheet.{kind, sheetVerdict, lines}
 use Rattle.publicpart.specs.Public.{carriedOf, contents, publicOf}
 use Rattle.publicpart.specs.declared.Answer.the-variants.{Released}
 use Rattle.publicpart.specs.Release.{release}
-use Rattle.capi.specs.Interface.{lasCheckFile, lasCheckSheet, lasReadHeader, lasVlrStep, lasPointAt, lasDecode, lasEncode, lasClassKept, lasClassTest, lasRecordKept, lasGeokeyFind, lasRelease, lasMend}
+use Rattle.capi.specs.Interface.{lasCheckFile, lasCheckSheet, lasReadHeader, lasVlrStep, lasPointAt, lasDecode, lasEncode, lasClassKept, lasClassTest, lasRecordKept, lasGeokeyFind, lasRelease, lasCuttingList, lasReleaseByList, lasMend}
 use Rattle.reader.specs.Header as header
 use Rattle.reader.specs.Header.{headerRead}
 use Rattle.reader.specs.Steps.{recordIf, stepOf}
@@ -39,7 +39,9 @@ use Rattle.sheet.specs.Keeping.{keptUnder, keepsClass, keepsRecord, containsCla
 use Rattle.sheet.specs.declared.answers.Tested.the-variants as tested
 use Rattle.fields.specs.Text.{cut}
 use Rattle.geokeys.specs.GeoKeys.{first, orLater, isProjection, projectionPlace, fromDirectory, answerIf, lookup}
-use Rattle.capi.specs.Answers.{keptNumbers, testedNumbers, mendedNumbers}
+use Rattle.capi.specs.Answers.{listedNumbers, keptNumbers, testedNumbers, mendedNumbers}
+use Rattle.publicpart.specs.declared.Listed.the-variants as listed
+use Rattle.publicpart.specs.Cutting.{named, payloadLine, payloadLines, strides, pieceLines, recordLines, pointLines, cuttingLines, fill, listVerdict, listUnder, cuttingList, recordNamed, publicBy, fillUnless, byListUnder, releaseByList}
 use Rattle.lasfile.specs.FileChecks.{fileVerdict, mendVerdict}
 use Rattle.editor.specs.Mend.{wholeRecords, mendedCount, mendedPoints, mended, changed, marks, mendBy, mend}
 use Rattle.capi.specs.HeaderAnswers.{headerNumbers, noHeader}
@@ -56,7 +58,7 @@ use Rattle.theorems.specs.BoundsOfKept.{Binned}
 use Rattle.theorems.specs.Demand1.{NothingChanged, ZerosBeside, EachNumber}
 use Rattle.theorems.specs.Mending.{Mends, InNoField}
 use Rattle.theorems.specs.Samples.{sheet3, sheet4, sheet5, sheet6, point7, used, half, ten, file9}
-use Rattle.theorems.specs.Instances.{other9, filled, output9, OfOutput9, fields7, numbers7, oneRecord, sheetA7, sheetA22, sheet64, NothingChangedMet, ZerosBesideMet, EachNumberMet, ExactlyMet, ShortMet, AgainMet, RecognisedMet, CompleteMet, NeverLongerMet, BoundsOfKeptMet, SheetsMet, ClassTestsMet, FilesMet, VisitsMet, RoundTripsMet, CoordinatesMet, OwnBitsMet, long7, FirstBytesMet, cut9, pointless9, MendingMet, AB, A-B, sheetSpaces7, named9, TextsMet, from, second9, first9, ClassesMet}
+use Rattle.theorems.specs.Instances.{other9, filled, output9, OfOutput9, fields7, numbers7, oneRecord, sheetA7, sheetA22, sheet64, sheetBoth, unfilled, NothingChangedMet, ZerosBesideMet, EachNumberMet, ExactlyMet, ShortMet, AgainMet, RecognisedMet, CompleteMet, NeverLongerMet, BoundsOfKeptMet, SheetsMet, ClassTestsMet, FilesMet, VisitsMet, RoundTripsMet, CoordinatesMet, OwnBitsMet, long7, FirstBytesMet, cut9, pointless9, MendingMet, AB, A-B, sheetSpaces7, named9, TextsMet, from, second9, first9, ClassesMet}
 use Rattle.theorems.proofs.FirstBytes.{first-bytes}
 use Rattle.theorems.proofs.Samples.{computed}
 use Rattle.theorems.proofs.Demand1.{demand1}
@@ -96,23 +98,23 @@ lengths : (length file9 ≡ 347) × (length other9 ≡ 350)
 unfolding computed
 lengths = (refl, refl)
 
-good9 : Good file9
+pub good9 : Good file9
 unfolding computed all-small
 good9 = record { bytes = all-bytes file9 tt; passes = refl }
 
-other-good9 : Good other9
+pub other-good9 : Good other9
 unfolding computed all-small
 other-good9 = record { bytes = all-bytes other9 tt; passes = refl }
 
-sheet-passes9 : sheetVerdict sheet3 ≡ Passes
+pub sheet-passes9 : sheetVerdict sheet3 ≡ Passes
 unfolding computed
 sheet-passes9 = refl
 
-one-public-part : publicOf sheet3 file9 ≡ publicOf sheet3 other9
+pub one-public-part : publicOf sheet3 file9 ≡ publicOf sheet3 other9
 unfolding computed
 one-public-part = refl
 
-needed9 : (needed sheet3 file9 ≡ 255) × (needed sheet3 other9 ≡ 255)
+pub needed9 : (needed sheet3 file9 ≡ 255) × (needed sheet3 other9 ≡ 255)
 unfolding computed
 needed9 = (refl, refl)
 
@@ -220,6 +222,11 @@ recognised-met =
 
 -- ---- demand 1
 
+-- where this is unfolded, what is said of lists is
+unfoldable pub lists-computed : Unit {0}
+unfolding named payloadLine payloadLines strides pieceLines recordLines pointLines cuttingLines fill listVerdict listUnder cuttingList recordNamed publicBy fillUnless byListUnder releaseByList
+lists-computed = tt
+
 -- what the functions give, by computing
 pub record ComputedNumbers : Type 0 where
   pub encode : encoded 0 20 fields7 (used 19) .0 ≡ Fails 12
@@ -237,6 +244,12 @@ pub record ComputedNumbers : Type 0 where
   pub record-kept : lasRecordKept sheet6 [] 0 .number ≡ 20
   pub geokey-find : lasGeokeyFind file9 1024 .number ≡ 40
   pub accepts : lasRelease file9 sheet3 (used 255) .0 .number ≡ 0
+  pub cutting-list : cuttingList sheetBoth file9 (unfilled 1) .0 ≡ listed.Refused 31
+  pub release-by-list : isReleased (releaseByList sheet3 file9 (used 254) (unfilled 2) .0 .0) ≡ false
+  pub las-cutting-list : lasCuttingList file9 sheetBoth (unfilled 1) .0 .number ≡ 31
+  pub las-release-by-list : lasReleaseByList file9 sheet3 (used 254) (unfilled 2) .0 .0 .number ≡ 30
+  pub both-short : lasReleaseByList file9 sheetBoth (used 254) (unfilled 1) .0 .0 .number ≡ 31
+  pub room-short : lasReleaseByList file9 sheet3 (used 254) (unfilled 1) .0 .0 .number ≡ 30
   pub mend : mend (zeros 227) .0 .verdict ≡ Fails 2
   pub las-mend : lasMend (zeros 227) .0 .number ≡ 2
 
@@ -245,7 +258,7 @@ unfolding computed encodeChecks large storedIf encoded header.headerIf headerRea
     projectionPlace first orLater isProjection fromDirectory answerIf lookup
     headerNumbers noHeader recordNumbers noRecord pointNumbers noPoint decodedNumbers keptNumbers testedNumbers geokeyNumbers isReleased
     lasCheckFile lasCheckSheet lasReadHeader lasVlrStep lasPointAt lasDecode lasEncode lasClassKept lasClassTest lasRecordKept lasGeokeyFind lasRelease lasMend
-    mendVerdict mendBy mend mendedNumbers
+    mendVerdict mendBy mend mendedNumbers lists-computed lasCuttingList lasReleaseByList listedNumbers
 computed-numbers =
     record {
       encode = refl;
@@ -263,6 +276,12 @@ computed-numbers =
       record-kept = refl;
       geokey-find = refl;
       accepts = refl;
+      cutting-list = refl;
+      release-by-list = refl;
+      las-cutting-list = refl;
+      las-release-by-list = refl;
+      both-short = refl;
+      room-short = refl;
       mend = refl;
       las-mend = refl;
     }
@@ -275,6 +294,10 @@ nothing-changed-met =
       las-encode = changed .las-encode 0 20 numbers7 (used 19) 11 (computed-numbers .las-encode);
       release = changed .release sheet3 file9 (used 254) (computed-numbers .release);
       las-release = changed .las-release file9 sheet3 (used 254) 29 (computed-numbers .las-release);
+      cutting-list = changed .cutting-list sheetBoth file9 (unfilled 1) 31 (computed-numbers .cutting-list);
+      release-by-list = changed .release-by-list sheet3 file9 (used 254) (unfilled 2) (computed-numbers .release-by-list);
+      las-cutting-list = changed .las-cutting-list file9 sheetBoth (unfilled 1) 30 (computed-numbers .las-cutting-list);
+      las-release-by-list = changed .las-release-by-list file9 sheet3 (used 254) (unfilled 2) 29 (computed-numbers .las-release-by-list);
       mend = changed .mend (zeros 227) 2 (computed-numbers .mend);
       las-mend = changed .las-mend (zeros 227) 1 (computed-numbers .las-mend);
     }
@@ -293,6 +316,8 @@ zeros-beside-met =
       record-kept = beside .record-kept sheet6 [] 0 19 (computed-numbers .record-kept);
       geokey-find = beside .geokey-find file9 1024 39 (computed-numbers .geokey-find);
       release = beside .release file9 sheet3 (used 254) 29 (computed-numbers .las-release) ∙ rw (needed9 .0);
+      cutting-list = beside .cutting-list file9 sheetBoth (unfilled 1) 30 (computed-numbers .las-cutting-list);
+      release-by-list = beside .release-by-list file9 sheetBoth (used 254) (unfilled 1) 30 (computed-numbers .both-short);
       mend = beside .mend (zeros 227) 1 (computed-numbers .las-mend);
     }
 
@@ -313,6 +338,9 @@ each-number-met =
       record-kept = numbers .record-kept sheet6 [] 0 .refuses 19 .0 (computed-numbers .record-kept);
       geokey-find = numbers .geokey-find file9 1024 .refuses 39 .0 (computed-numbers .geokey-find);
       release-number = numbers .release file9 sheet3 (used 254) .refuses 29 .0 (computed-numbers .las-release);
+      list-number = numbers .cutting-list file9 sheetBoth (unfilled 1) .refuses 30 .0 (computed-numbers .las-cutting-list);
+      by-list-number = numbers .release-by-list file9 sheetBoth (used 254) (unfilled 1) .refuses 30 .0 (computed-numbers .both-short);
+      room-number = numbers .release-by-list file9 sheet3 (used 254) (unfilled 1) .refuses 29 .0 (computed-numbers .room-short);
       mend-number = numbers .mend (zeros 227) .refuses 1 .0 (computed-numbers .las-mend);
       accepts = numbers .release file9 sheet3 (used 255) .accepts .0 (computed-numbers .accepts);
     }

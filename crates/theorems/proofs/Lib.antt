@@ -9,6 +9,8 @@ pub mod ReleasedFile
 pub mod BoundsBack
 pub mod TotalsBack
 pub mod BoundsOfKept
+pub mod CuttingList
+pub mod ByList
 pub mod Files
 pub mod Mending
 pub mod FirstBytes
@@ -20,3 +22,4 @@ pub mod scaling
 pub mod reader
 pub mod capi
 pub mod Instances
+pub mod ListInstances

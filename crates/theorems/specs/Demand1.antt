@@ -19,14 +19,17 @@ use Rattle.reader.specs.Steps.{stepChecks}
 use Rattle.reader.specs.OnePoint.{pointChecks}
 use Rattle.sheet.specs.Sheet.{sheetVerdict}
 use Rattle.publicpart.specs.Release.{release}
+use Rattle.publicpart.specs.declared.Span.{Span}
+use Rattle.publicpart.specs.declared.Listed.the-variants.{Refused}
+use Rattle.publicpart.specs.Cutting.{cuttingList, releaseByList}
 use Rattle.editor.specs.Mend.{mend}
 use Rattle.capi.specs.HeaderAnswers.{noHeader}
 use Rattle.capi.specs.RecordAnswers.{noRecord}
 use Rattle.capi.specs.PointAnswers.{noPoint, givenPoint}
 use Rattle.capi.specs.declared.point.«las_point».{«las_point»}
-use Rattle.capi.specs.Interface.{lasCheckFile, lasCheckSheet, lasReadHeader, lasVlrStep, lasPointAt, lasDecode, lasEncode, lasClassKept, lasClassTest, lasRecordKept, lasGeokeyFind, lasRelease, lasMend}
+use Rattle.capi.specs.Interface.{lasCheckFile, lasCheckSheet, lasReadHeader, lasVlrStep, lasPointAt, lasDecode, lasEncode, lasClassKept, lasClassTest, lasRecordKept, lasGeokeyFind, lasRelease, lasCuttingList, lasReleaseByList, lasMend}
 use Rattle.theorems.specs.Terms.{needed, refusal}
-use Rattle.theorems.specs.Tables.{Given, ByTable, sheetChecks, lookupChecks, releaseChecks}
+use Rattle.theorems.specs.Tables.{Given, ByTable, sheetChecks, lookupChecks, releaseChecks, listChecks, byListChecks}
 use Rattle.theorems.specs.ZeroWhereAccepted.{isReleased}
 
 -- a refusal leaves the lent bytes as they were
@@ -37,6 +40,13 @@ pub record NothingChanged : Type 0 where
   -- the output of a release that is not accepted, 30 too
   pub release : (sheet file out : Bytes) → isReleased (release sheet file out .0) ≡ false
       → release sheet file out .1 ≡ out
+  -- the list of a cutting list that gives a number
+  pub cutting-list : (sheet file : Bytes) (list : List Span) (n : ℕ)
+      → cuttingList sheet file list .0 ≡ Refused n → cuttingList sheet file list .1 ≡ list
+  -- output and list of a release by a list that is not accepted, 30 too
+  pub release-by-list : (sheet file out : Bytes) (list : List Span)
+      → isReleased (releaseByList sheet file out list .0 .0) ≡ false
+      → (releaseByList sheet file out list .0 .1 ≡ out) × (releaseByList sheet file out list .1 ≡ list)
   -- the file of a mending that gives a number
   pub mend : (file : Bytes) (n : ℕ) → mend file .0 .verdict ≡ Fails n → mend file .1 ≡ file
   -- the room of `las_encode`, where its number is not 0
@@ -45,6 +55,13 @@ pub record NothingChanged : Type 0 where
   -- the output of `las_release`, where its number is not 0
   pub las-release : (file sheet out : Bytes) (n : ℕ)
       → lasRelease file sheet out .0 .number ≡ suc n → lasRelease file sheet out .1 ≡ out
+  -- the list of `las_cutting_list`, where its number is not 0
+  pub las-cutting-list : (file sheet : Bytes) (list : List Span) (n : ℕ)
+      → lasCuttingList file sheet list .0 .number ≡ suc n → lasCuttingList file sheet list .1 ≡ list
+  -- output and list of `las_release_by_list`, where its number is not 0
+  pub las-release-by-list : (file sheet out : Bytes) (list : List Span) (n : ℕ)
+      → lasReleaseByList file sheet out list .0 .0 .number ≡ suc n
+      → (lasReleaseByList file sheet out list .0 .1 ≡ out) × (lasReleaseByList file sheet out list .1 ≡ list)
   -- the file of `las_mend`, where its number is not 0
   pub las-mend : (file : Bytes) (n : ℕ) → lasMend file .0 .number ≡ suc n → lasMend file .1 ≡ file
 
@@ -76,6 +93,14 @@ pub record ZerosBeside : Type 0 where
   -- where a release is refused, 30 with the needed length
   pub release : (file sheet out : Bytes) (n : ℕ) → lasRelease file sheet out .0 .number ≡ suc n
       → lasRelease file sheet out .0 ≡ refusal (suc n) (needed sheet file)
+  -- where no list is filled
+  pub cutting-list : (file sheet : Bytes) (list : List Span) (n : ℕ)
+      → lasCuttingList file sheet list .0 .number ≡ suc n
+      → lasCuttingList file sheet list .0 ≡ record { number = suc n; lines = 0 }
+  -- where a release by a list is refused, 30 with the needed length, 31 with zeros
+  pub release-by-list : (file sheet out : Bytes) (list : List Span) (n : ℕ)
+      → lasReleaseByList file sheet out list .0 .0 .number ≡ suc n
+      → lasReleaseByList file sheet out list .0 .0 ≡ refusal (suc n) (needed sheet file)
   -- where a file is not mended, which marks nothing
   pub mend : (file : Bytes) (n : ℕ) → lasMend file .0 .number ≡ suc n
       → lasMend file .0 ≡ record { number = suc n; marks = replicate 12 0 }
@@ -118,6 +143,12 @@ pub record EachNumber : Type 0 where
       → ByTable (lasGeokeyFind file key .number) (fileChecks file ++ lookupChecks file key)
   -- 1 to 10, then 20 to 24, then 30
   pub release : (file sheet out : Bytes) → ByTable (lasRelease file sheet out .0 .number) (releaseChecks sheet file out)
+  -- 1 to 10, then 20 to 24, then 31
+  pub cutting-list : (file sheet : Bytes) (list : List Span)
+      → ByTable (lasCuttingList file sheet list .0 .number) (listChecks sheet file list)
+  -- 1 to 10, then 20 to 24, then 31, then 30
+  pub release-by-list : (file sheet out : Bytes) (list : List Span)
+      → ByTable (lasReleaseByList file sheet out list .0 .0 .number) (byListChecks sheet file out list)
   -- 1 to 8, then 10
   pub mend : (file : Bytes) → ByTable (lasMend file .0 .number) (mendChecks file)
 

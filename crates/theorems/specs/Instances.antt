@@ -3,7 +3,7 @@
 -- Assumes nothing.
 use mathlib.Core.Path.{_≡_}
 use Prim.Native.Nat.{ℕ, _+_, _*_, _≤_}
-use mathlib.Core.List.{[], _∷_, _++_}
+use mathlib.Core.List.{List, [], _∷_, _++_}
 use lib.Dec.{T}
 use lib.ListN.{length, drop, getD, replicate, take}
 use lib.IntN.{ℤ, pos, negsuc, _+ℤ_, _*ℤ_}
@@ -34,16 +34,18 @@ use Rattle.sheet.specs.declared.answers.Tested.the-variants as tested
 use Rattle.lasfile.specs.HeaderFields.{format, pointCount}
 use Rattle.publicpart.specs.Public.{contents, publicOf}
 use Rattle.publicpart.specs.Release.{release}
+use Rattle.publicpart.specs.declared.Span.{Span}
+use Rattle.publicpart.specs.Cutting.{span, cuttingList, releaseByList}
 use Rattle.editor.specs.Mend.{mend}
 use Rattle.capi.specs.Answers.{releasedNumbers}
 use Rattle.capi.specs.HeaderAnswers.{noHeader}
 use Rattle.capi.specs.RecordAnswers.{noRecord}
 use Rattle.capi.specs.PointAnswers.{noPoint, givenPoint}
 use Rattle.capi.specs.declared.point.«las_point».{«las_point»}
-use Rattle.capi.specs.Interface.{lasReadHeader, lasVlrStep, lasPointAt, lasDecode, lasEncode, lasClassKept, lasClassTest, lasRecordKept, lasGeokeyFind, lasRelease, lasMend}
+use Rattle.capi.specs.Interface.{lasReadHeader, lasVlrStep, lasPointAt, lasDecode, lasEncode, lasClassKept, lasClassTest, lasRecordKept, lasGeokeyFind, lasRelease, lasCuttingList, lasReleaseByList, lasMend}
 use Rattle.tally.specs.Tally.{noTally, tallied}
 use Rattle.theorems.specs.Terms.{refusal, OfOutput}
-use Rattle.theorems.specs.Tables.{Given, sheetChecks, lookupChecks, releaseChecks}
+use Rattle.theorems.specs.Tables.{Given, sheetChecks, lookupChecks, releaseChecks, listChecks, byListChecks}
 use Rattle.theorems.specs.Demand3.{Same, inLength}
 use Rattle.theorems.specs.Recognised.{OutputUnder, GivesItself}
 use Rattle.theorems.specs.ReleasedFile.{pointsKept, Holds, CountsKept}
@@ -99,6 +101,14 @@ sheetA22 = sheetA7 ++ (sheet3 ++ sheet3)
 abbrev pub sheet64 : Bytes
 sheet64 = join (replicate 64 line)
 
+-- a sheet that keeps sample P9's record and its point of class 2: two lines
+abbrev pub sheetBoth : Bytes
+sheetBoth = 0x4B ∷ 0x53 ∷ 0x02 ∷ (zeros 18 ++ sheet3)
+
+-- a list of n lines as it is lent
+abbrev pub unfilled : ℕ → List Span
+unfilled n = replicate n (span 7 9)
+
 -- ---- demand 1
 
 pub record NothingChangedMet : Type 0 where
@@ -110,6 +120,15 @@ pub record NothingChangedMet : Type 0 where
   pub release : release sheet3 file9 (used 254) .1 ≡ used 254
   -- of `las_release` too
   pub las-release : lasRelease file9 sheet3 (used 254) .1 ≡ used 254
+  -- a list of one line is too short for two, and stays
+  pub cutting-list : cuttingList sheetBoth file9 (unfilled 1) .1 ≡ unfilled 1
+  -- so do both where the output is too short for the released file
+  pub release-by-list : (releaseByList sheet3 file9 (used 254) (unfilled 2) .0 .1 ≡ used 254)
+      × (releaseByList sheet3 file9 (used 254) (unfilled 2) .1 ≡ unfilled 2)
+  -- of `las_cutting_list` and `las_release_by_list` too
+  pub las-cutting-list : lasCuttingList file9 sheetBoth (unfilled 1) .1 ≡ unfilled 1
+  pub las-release-by-list : (lasReleaseByList file9 sheet3 (used 254) (unfilled 2) .0 .1 ≡ used 254)
+      × (lasReleaseByList file9 sheet3 (used 254) (unfilled 2) .1 ≡ unfilled 2)
   -- 227 zero bytes are not mended
   pub mend : mend (zeros 227) .1 ≡ zeros 227
   -- by `las_mend` neither
@@ -134,6 +153,11 @@ pub record ZerosBesideMet : Type 0 where
   pub geokey-find : lasGeokeyFind file9 1024 ≡ record { number = 40; location = 0; value = 0; length = 0 }
   -- 254 bytes are too few for 255
   pub release : lasRelease file9 sheet3 (used 254) .0 ≡ record { number = 30; length = 255; points = 0; records = 0 }
+  -- one line is too few for two
+  pub cutting-list : lasCuttingList file9 sheetBoth (unfilled 1) .0 ≡ record { number = 31; lines = 0 }
+  -- which is given before 30, with zeros
+  pub release-by-list : lasReleaseByList file9 sheetBoth (used 254) (unfilled 1) .0 .0
+      ≡ record { number = 31; length = 0; points = 0; records = 0 }
   -- 227 zero bytes are not mended, and nothing is marked
   pub mend : lasMend (zeros 227) .0 ≡ record { number = 2; marks = replicate 12 0 }
 
@@ -164,6 +188,12 @@ pub record EachNumberMet : Type 0 where
   pub geokey-find : Given (fileChecks file9 ++ lookupChecks file9 1024) 40
   -- its release into 254 bytes gives 30
   pub release-number : Given (releaseChecks sheet3 file9 (used 254)) 30
+  -- one line for two gives 31
+  pub list-number : Given (listChecks sheetBoth file9 (unfilled 1)) 31
+  -- before 30
+  pub by-list-number : Given (byListChecks sheetBoth file9 (used 254) (unfilled 1)) 31
+  -- 30 where the list is long enough
+  pub room-number : Given (byListChecks sheet3 file9 (used 254) (unfilled 1)) 30
   -- 227 zero bytes to mend give 2
   pub mend-number : Given (mendChecks (zeros 227)) 2
   -- into 255 bytes every check is clear

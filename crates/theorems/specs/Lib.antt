@@ -10,6 +10,8 @@ pub mod BoundsOfKept
 pub mod Sheets
 pub mod Classes
 pub mod ClassTests
+pub mod CuttingList
+pub mod ByList
 pub mod Files
 pub mod Mending
 pub mod Visits
@@ -18,3 +20,4 @@ pub mod FirstBytes
 pub mod ZeroWhereAccepted
 pub mod Samples
 pub mod Instances
+pub mod ListInstances

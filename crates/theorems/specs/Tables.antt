@@ -14,7 +14,8 @@ use Rattle.fields.specs.Checks.{Test, Clear, Check, AllClear, _below_, not-so}
 use Rattle.lasfile.specs.FileChecks.{fileChecks}
 use Rattle.sheet.specs.Sheet.{lineChecks, afterLine}
 use Rattle.geokeys.specs.GeoKeys.{projectionPlace, payloadAt, directoryChecks, entryOf, entryChecks, locationOf, doubleChecks, textChecks}
-use Rattle.theorems.specs.Terms.{needed}
+use Rattle.publicpart.specs.declared.Span.{Span}
+use Rattle.theorems.specs.Terms.{needed, enough}
 
 -- ---- what a table gives
 
@@ -89,3 +90,13 @@ lookupChecks s key = (40, not-so (isSome (projectionPlace s 34735))) ∷ directo
 
 unfoldable pub releaseChecks : Bytes → Bytes → Bytes → List Check
 releaseChecks sheet file out = fileChecks file ++ (sheetChecks sheet ++ (30, length out below needed sheet file) ∷ [])
+
+-- ---- the cutting list: file (1 to 10), sheet (20 to 24), list (31); and the release from it, with room (30) last
+
+unfoldable pub listChecks : Bytes → Bytes → List Span → List Check
+listChecks sheet file list = fileChecks file ++ (sheetChecks sheet ++ (31, length list below enough sheet file) ∷ [])
+
+unfoldable pub byListChecks : Bytes → Bytes → Bytes → List Span → List Check
+byListChecks sheet file out list =
+    fileChecks file
+    ++ (sheetChecks sheet ++ (31, length list below enough sheet file) ∷ (30, length out below needed sheet file) ∷ [])

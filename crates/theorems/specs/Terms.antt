@@ -1,5 +1,5 @@
--- Terms of the theorems: a file that passes, the released file's length, what a refused release answers, an accepted
--- release, and its output read as a file.
+-- Terms of the theorems: a file that passes, the released file's length, the length of its cutting list, what a refused
+-- release answers, an accepted release, and its output read as a file.
 -- Assumes nothing.
 use mathlib.Core.Path.{_≡_}
 use Prim.Native.Nat.{ℕ}
@@ -11,6 +11,7 @@ use Rattle.fields.specs.declared.Verdict.the-variants.{Passes}
 use Rattle.lasfile.specs.FileChecks.{fileVerdict}
 use Rattle.publicpart.specs.Public.{publicOf}
 use Rattle.publicpart.specs.Render.{render}
+use Rattle.publicpart.specs.Cutting.{keptTogether}
 use Rattle.publicpart.specs.declared.Answer.the-variants.{Released}
 use Rattle.publicpart.specs.Release.{release}
 use Rattle.capi.specs.declared.answers.«las_released».{«las_released»}
@@ -24,6 +25,10 @@ pub record Good (s : Bytes) : Type 0 where
 -- the length of the released file
 abbrev pub needed : Bytes → Bytes → ℕ
 needed sheet file = length (render (publicOf sheet file))
+
+-- the lines that a list needs: one for each kept record and each kept point
+abbrev pub enough : Bytes → Bytes → ℕ
+enough sheet file = keptTogether (publicOf sheet file)
 
 -- what a release answers where it is refused with the number n: 30 has the needed length m beside it
 unfoldable pub refusal : ℕ → ℕ → «las_released»

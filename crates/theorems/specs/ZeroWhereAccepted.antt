@@ -3,6 +3,7 @@
 use mathlib.Core.Path.{_≡_}
 use Prim.Native.Nat.{ℕ}
 use mathlib.Core.Bool.{Bool, true, false}
+use mathlib.Core.List.{List}
 use lib.Dec.{eqb}
 use Rattle.fields.specs.Bytes.{Bytes}
 use Rattle.fields.specs.declared.Verdict.{Verdict}
@@ -26,12 +27,16 @@ use Rattle.geokeys.specs.GeoKeys.{lookup}
 use Rattle.geokeys.specs.declared.GeoKey.{GeoKey}
 use Rattle.geokeys.specs.declared.GeoKey.the-variants as key
 use Rattle.publicpart.specs.Release.{release}
+use Rattle.publicpart.specs.Cutting.{cuttingList, releaseByList}
+use Rattle.publicpart.specs.declared.Span.{Span}
+use Rattle.publicpart.specs.declared.Listed.{Listed}
+use Rattle.publicpart.specs.declared.Listed.the-variants as listed
 use Rattle.publicpart.specs.declared.Answer.{Answer}
 use Rattle.publicpart.specs.declared.Answer.the-variants as answer
 use Rattle.editor.specs.Mend.{mend}
 use Rattle.capi.specs.PointAnswers.{givenPoint}
 use Rattle.capi.specs.declared.point.«las_point».{«las_point»}
-use Rattle.capi.specs.Interface.{lasCheckFile, lasCheckSheet, lasReadHeader, lasVlrStep, lasPointAt, lasDecode, lasEncode, lasClassKept, lasClassTest, lasRecordKept, lasGeokeyFind, lasRelease, lasMend}
+use Rattle.capi.specs.Interface.{lasCheckFile, lasCheckSheet, lasReadHeader, lasVlrStep, lasPointAt, lasDecode, lasEncode, lasClassKept, lasClassTest, lasRecordKept, lasGeokeyFind, lasRelease, lasCuttingList, lasReleaseByList, lasMend}
 
 -- ---- which answers are accepted
 
@@ -65,6 +70,10 @@ unfoldable pub isReleased : Answer → Bool
 isReleased (answer.Released n p r) = true
 isReleased (answer.Short n) = false
 isReleased (answer.Refused n) = false
+
+unfoldable pub isListed : Listed → Bool
+isListed (listed.Lines n) = true
+isListed (listed.Refused n) = false
 
 -- ---- number by number: 0 exactly where
 
@@ -103,5 +112,11 @@ pub record ZeroWhereAccepted : Type 0 where
   -- a release is accepted
   pub release : (file sheet out : Bytes)
       → isZero (lasRelease file sheet out .0 .number) ≡ isReleased (release sheet file out .0)
+  -- a list is filled
+  pub cutting-list : (file sheet : Bytes) (list : List Span)
+      → isZero (lasCuttingList file sheet list .0 .number) ≡ isListed (cuttingList sheet file list .0)
+  -- a release by a list is accepted
+  pub release-by-list : (file sheet out : Bytes) (list : List Span)
+      → isZero (lasReleaseByList file sheet out list .0 .0 .number) ≡ isReleased (releaseByList sheet file out list .0 .0)
   -- a file is mended
   pub mend : (file : Bytes) → isZero (lasMend file .0 .number) ≡ isPassing (mend file .0 .verdict)

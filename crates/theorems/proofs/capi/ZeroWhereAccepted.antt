@@ -3,10 +3,12 @@
 use mathlib.Core.Path.{_≡_, refl, ap, _∙_}
 use Prim.Native.Nat.{ℕ}
 use mathlib.Core.Bool.{Bool, true, false}
+use mathlib.Core.List.{List}
 use mathlib.Core.Option.{Option, none, some}
-use lib.Dec.{eqb}
+use lib.Dec.{eqb, ltb}
+use lib.ListN.{length}
 use Rattle.fields.specs.Bytes.{Bytes}
-use Rattle.fields.specs.Checks.{numberOf, then}
+use Rattle.fields.specs.Checks.{failIf, numberOf, then}
 use Rattle.fields.specs.declared.Verdict.{Verdict}
 use Rattle.fields.specs.declared.Verdict.the-variants.{Passes, Fails}
 use Rattle.fields.proofs.CheckLaws.{Without}
@@ -25,13 +27,16 @@ use Rattle.sheet.specs.Keeping.{keptUnder}
 use Rattle.geokeys.specs.GeoKeys.{directoryChecks, entryChecks, doubleChecks, textChecks, answerIf, either, doubleIn, textIn, inParameters, fromEntry, fromDirectory, lookup, locationOf, payloadAt, entryOf, projectionPlace}
 use Rattle.geokeys.specs.declared.GeoKey.{GeoKey}
 use Rattle.publicpart.specs.Release.{Outcome, refuseOr, shortOr, accepted, roomOr, release}
+use Rattle.publicpart.specs.declared.Span.{Span}
+use Rattle.publicpart.specs.Cutting.{cuttingLines, listVerdict, listUnder, cuttingList, byListUnder, releaseByList}
+use Rattle.publicpart.proofs.CuttingLaws.{by-list-is}
 use Rattle.editor.specs.Mend.{mendBy, mend}
-use Rattle.capi.specs.Answers.{releasedNumbers, keptNumbers, mendedNumbers}
+use Rattle.capi.specs.Answers.{releasedNumbers, listedNumbers, keptNumbers, mendedNumbers}
 use Rattle.capi.specs.RecordAnswers.{foundRecord, noRecord, recordNumbers, geokeyNumbers}
 use Rattle.capi.specs.PointAnswers.{foundPoint, noPoint, pointNumbers, decodedNumbers}
 use Rattle.capi.specs.HeaderAnswers.{foundHeader, noHeader, headerNumbers}
-use Rattle.capi.specs.Interface.{lasCheckFile, lasCheckSheet, lasReadHeader, lasVlrStep, lasPointAt, lasDecode, lasEncode, lasClassKept, lasClassTest, lasRecordKept, lasGeokeyFind, lasRelease, lasMend}
-use Rattle.theorems.specs.ZeroWhereAccepted.{isPassing, hasFields, hasRecord, hasPoint, isDecoded, isFound, isReleased, isZero, ZeroWhereAccepted}
+use Rattle.capi.specs.Interface.{lasCheckFile, lasCheckSheet, lasReadHeader, lasVlrStep, lasPointAt, lasDecode, lasEncode, lasClassKept, lasClassTest, lasRecordKept, lasGeokeyFind, lasRelease, lasCuttingList, lasReleaseByList, lasMend}
+use Rattle.theorems.specs.ZeroWhereAccepted.{isPassing, hasFields, hasRecord, hasPoint, isDecoded, isFound, isReleased, isListed, isZero, ZeroWhereAccepted}
 use Rattle.theorems.proofs.sheet.TestLaws.{numbers-under}
 use Rattle.theorems.proofs.capi.NumberLaws.{Numbered, first-numbered, then-numbered, file-numbered, mend-numbered, sheet-numbered}
 
@@ -142,6 +147,35 @@ release-numbered sheet s out =
     (then-numbered (fileVerdict s) (sheetVerdict sheet) (file-numbered s) (sheet-numbered sheet))
     (short-or _ _ out _ refl)
 
+-- ---- a cutting list, and a release by it
+
+short-list : (b : Bool) → Numbered (failIf b 31 Passes)
+unfolding failIf Numbered isPassing numberOf isZero
+short-list true = refl
+short-list false = refl
+
+list-numbered : (sheet s : Bytes) (room : ℕ) → Numbered (listVerdict sheet s room)
+unfolding listVerdict
+list-numbered sheet s room =
+    then-numbered (then (fileVerdict s) (sheetVerdict sheet)) _ (then-numbered (fileVerdict s) (sheetVerdict sheet) (file-numbered s) (sheet-numbered sheet)) (short-list (ltb room _))
+
+listed-if : (v : Verdict) (lines list : List Span) → Numbered v → isZero (listedNumbers (listUnder v lines list .0) .number) ≡ isListed (listUnder v lines list .0)
+unfolding listUnder listedNumbers isListed Numbered isPassing numberOf isZero
+listed-if Passes lines list e = refl
+listed-if (Fails n) lines list e = e
+
+by-list-if : (v : Verdict) (out : Bytes) (list : List Span) (later : Outcome × List Span) → Numbered v → NumberedOutcome (later .0)
+    → NumberedOutcome (byListUnder v out list later .0)
+unfolding NumberedOutcome byListUnder releasedNumbers isReleased Numbered isPassing numberOf
+by-list-if Passes out list later e h = h
+by-list-if (Fails n) out list later e h = e
+
+by-list-numbered : (sheet s out : Bytes) (list : List Span) → NumberedOutcome (releaseByList sheet s out list .0)
+unfolding roomOr accepted NumberedOutcome releasedNumbers isReleased isZero
+by-list-numbered sheet s out list =
+    rw (by-list-is sheet s out list)
+    (by-list-if (listVerdict sheet s (length list)) out list _ (list-numbered sheet s (length list)) (short-or _ _ out _ refl))
+
 mend-by : (v : Verdict) (s : Bytes) → Numbered v → isZero (mendedNumbers (mendBy v s .0) .number) ≡ isPassing (mendBy v s .0 .verdict)
 unfolding mendBy mendedNumbers Numbered
 mend-by Passes s e = e
@@ -150,7 +184,7 @@ mend-by (Fails n) s e = e
 -- ---- all of them
 
 pub zero-where-accepted : ZeroWhereAccepted
-unfolding lasCheckFile lasCheckSheet lasReadHeader lasVlrStep lasPointAt lasDecode lasEncode lasClassKept lasClassTest lasRecordKept lasGeokeyFind lasRelease lasMend mend
+unfolding lasCheckFile lasCheckSheet lasReadHeader lasVlrStep lasPointAt lasDecode lasEncode lasClassKept lasClassTest lasRecordKept lasGeokeyFind lasRelease lasCuttingList lasReleaseByList lasMend cuttingList mend
     header.headerRead stepOf pointAtOf points.decoded encoding.encoded points.decodeChecks encoding.encodeChecks Numbered NumberedKey NumberedOutcome Without isZero
 zero-where-accepted =
     record {
@@ -171,5 +205,8 @@ zero-where-accepted =
       record-kept = λ sheet user id. kept-if (sheetVerdict sheet) _ (sheet-numbered sheet);
       geokey-find = found;
       release = λ file sheet out. release-numbered sheet file out;
+      cutting-list =
+          λ file sheet list. listed-if (listVerdict sheet file (length list)) (cuttingLines sheet file) list (list-numbered sheet file (length list));
+      release-by-list = λ file sheet out list. by-list-numbered sheet file out list;
       mend = λ file. mend-by (mendVerdict file) file (mend-numbered file);
     }

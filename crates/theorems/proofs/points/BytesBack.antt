@@ -11,7 +11,7 @@ use mir.Val.{toZ, ofZ, bits as widthBits}
 use mir.ValLaws.{ofZ-toZ}
 use Rattle.fields.specs.Lists.{total}
 use Rattle.fields.specs.Bytes.{Bytes, AllBytes, part, num, bytesOf, join}
-use Rattle.fields.proofs.ByteLaws.{take-bytes, bytesOf-num, drop-bytes, num-part-lt, num-part-one, length-part}
+use Rattle.fields.proofs.ByteLaws.{part-bytes, bytesOf-num, num-part-lt, num-part-one, length-part}
 use Rattle.points.specs.declared.formats.Place.{Place}
 use Rattle.points.specs.declared.formats.Place.the-variants.{At, Absent}
 use Rattle.points.specs.Formats.{formatSize, timePlace, colourPlace}
@@ -23,10 +23,6 @@ use Rattle.points.specs.Encoding.{flagByte, joinedClass, sharedFields, ifPlaced
 use Rattle.points.proofs.encoding.LayoutLaws.{sharedWidths, bytes-groups}
 
 -- ---- one field
-
-part-bytes : (at w : ℕ) (s : Bytes) → AllBytes s → AllBytes (part at w s)
-unfolding part
-part-bytes at w s h = take-bytes w (drop at s) (drop-bytes at s h)
 
 -- the fields of a record, each at its place and width
 module _ (s : Bytes) (all : AllBytes s) where
