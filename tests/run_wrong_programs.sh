@@ -24,7 +24,7 @@ prints() {
     rm -rf "$root" && mkdir -p "$root" && cp -r crates crates.txt "$root" || return 1
     if [[ $# -eq 4 ]]; then tools/house apply "$3" "$4" "$root" || return 1; fi
     mkdir -p "$root/crates/shown/src" || return 1
-    echo 'shown: capi io libc' >>"$root/crates.txt"
+    echo 'shown: capi publicpart io libc' >>"$root/crates.txt"
     cat tests/wrong/prelude.rt.in "tests/wrong/$1.rt.in" >"$root/crates/shown/src/main.rt"
     tr ' ' '\n' <<<"$2" >"$root/crates/shown/stdout"
     if ! (cd "$root" && rt try shown) >"$scratch/said" 2>&1; then
