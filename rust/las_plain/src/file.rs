@@ -72,6 +72,11 @@ impl<'a> LasFile<'a> {
         self.header.point_count = u64::from(self.header.point_count).min(fitting as u64) as u32;
     }
 
+    /// The whole file.
+    pub(crate) fn bytes(&self) -> &'a [u8] {
+        self.bytes
+    }
+
     /// The fields of the header.
     pub fn header(&self) -> &Header<'a> {
         &self.header

@@ -1,4 +1,4 @@
-//! An independent reader, releaser and mender of LAS 1.2.
+//! An independent reader, lister, releaser and mender of LAS 1.2.
 //!
 //! Written from the LAS 1.2 specification, the GeoKey pages and the requirements
 //! (docs/SPECIFICATION.md) alone. It shares nothing with the proved crates, so
@@ -8,6 +8,7 @@
 //! * [`Sheet`] is a keep sheet that passes; [`check_sheet`] only asks.
 //! * [`class_test()`] looks for the first line of a sheet that holds a class.
 //! * [`release()`] writes what a sheet leaves of a file.
+//! * [`cutting_list()`] lists which parts of a file a release takes; [`release_by_list()`] releases from such a list.
 //! * [`mend()`] sets right the counts and bounds of a header that lies.
 //! * [`Point`] is one point's fields, with [`decode`] and [`encode`].
 //!
@@ -15,6 +16,7 @@
 
 mod bytes;
 mod class_test;
+mod cutting;
 mod file;
 mod format;
 mod geokey;
@@ -23,6 +25,7 @@ mod mend;
 mod point;
 mod refusal;
 mod release;
+mod release_by_list;
 mod scaling;
 mod sheet;
 mod tally;
@@ -33,6 +36,7 @@ mod sample;
 
 pub use bytes::cut;
 pub use class_test::{ClassLine, class_test};
+pub use cutting::{Line, cutting_list};
 pub use file::{LasFile, check_file, read_header};
 pub use format::PointFormat;
 pub use geokey::GeoValue;
@@ -41,6 +45,7 @@ pub use mend::mend;
 pub use point::{Point, decode, encode};
 pub use refusal::Refusal;
 pub use release::{Released, release};
+pub use release_by_list::release_by_list;
 pub use scaling::{Bounds, Scaling, coordinate};
 pub use sheet::{Sheet, check_sheet, class_kept, record_kept};
 pub use vlr::{Vlr, Vlrs};

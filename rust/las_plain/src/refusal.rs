@@ -49,6 +49,8 @@ pub enum Refusal {
         /// The released file's length.
         needed: u64,
     },
+    /// The cutting list is shorter than the kept records and points together.
+    ListTooShort,
     /// There is no GeoKey directory.
     NoDirectory,
     /// The GeoKey directory is not sound.
@@ -93,6 +95,7 @@ impl Refusal {
             Self::ReversedRange => (23, "lowest class above highest"),
             Self::TooManyLines => (24, "more than 64 sheet lines"),
             Self::OutputTooShort { .. } => (30, "output shorter than the released file"),
+            Self::ListTooShort => (31, "list shorter than the kept records and points"),
             Self::NoDirectory => (40, "no GeoKey directory"),
             Self::BadDirectory => (41, "unsound GeoKey directory"),
             Self::NoSuchKey => (42, "key not in the directory"),

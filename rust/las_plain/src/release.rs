@@ -50,7 +50,7 @@ fn kept_points<'a>(file: &LasFile<'a>, sheet: &Sheet<'_>) -> impl Iterator<Item 
 
 /// Whether a point with this classification byte is kept; a withheld one never is, whatever the sheet says.
 #[inline]
-fn keeps_point(sheet: &Sheet<'_>, class_byte: u8) -> bool {
+pub(crate) fn keeps_point(sheet: &Sheet<'_>, class_byte: u8) -> bool {
     // `&` and not `&&`: one branch per point instead of two.
     !is_withheld(class_byte) & sheet.keeps_class(class_of(class_byte))
 }

@@ -1,6 +1,7 @@
-//! The specification's sample file and sheet, for the tests.
+//! The specification's sample file and sheet and others, for the tests.
 
 use crate::bytes::put;
+use crate::cutting::Line;
 use crate::format::PointFormat;
 use crate::header::{Header, ProjectId};
 use crate::point::{CLASS_PLACE, Point};
@@ -32,6 +33,81 @@ pub fn every_class_byte_file() -> Vec<u8> {
         file.extend_from_slice(&record);
     }
     file
+}
+
+/// A file of 512 bytes whose parts lie, behind two extra header bytes, at these places:
+///
+/// * records "user" 7 at 229 (payload of 5 at 283), "user" 8 at 288 (payload of 3 at 342) and "other" 7 at 345, whose
+///   empty payload ends at the point offset 399, each with junk in its reserved field and behind its texts;
+/// * five points of format 0 with two extra bytes each at 399, 421, 443, 465 and 487, of which the first, third and
+///   last have class 2 and are not withheld;
+/// * three trailing bytes.
+pub fn parts_file() -> Vec<u8> {
+    let mut file = p9_file();
+    file.truncate(227);
+    file[104] = 0;
+    for (at, number) in [(94, 229), (96, 399), (100, 3), (105, 22), (107, 5)] {
+        put(&mut file, at, &u16::to_le_bytes(number));
+    }
+    file.extend([0xEE; 2]);
+    file.extend(record_with_junk(b"user", 7, b"first"));
+    file.extend(record_with_junk(b"user", 8, b"mid"));
+    file.extend(record_with_junk(b"other", 7, b""));
+    file.extend(point_with_extra_bytes(10, 1, 2, [0xE0, 0xF0]));
+    file.extend(point_with_extra_bytes(99, 2, 3, [0xE1, 0xF1]));
+    file.extend(point_with_extra_bytes(-30, 1, 66, [0xE2, 0xF2]));
+    file.extend(point_with_extra_bytes(-99, 2, 130, [0xE3, 0xF3]));
+    file.extend(point_with_extra_bytes(20, 3, 2, [0xE4, 0xF4]));
+    file.extend([0xDD; 3]);
+    file
+}
+
+/// A sheet that keeps class 2 and the records "other" 7 and "user" 7.
+pub fn parts_sheet() -> Vec<u8> {
+    let other = b"KS\x02other\0\0\0\0\0\0\0\0\0\0\0\x07\0";
+    let user = b"KS\x02user\0\0\0\0\0\0\0\0\0\0\0\0\x07\0";
+    [P3_SHEET.as_slice(), other, user].concat()
+}
+
+/// The cutting list of [`parts_file`] under [`parts_sheet`].
+pub const PARTS_LIST: [Line; 5] = [
+    line(283, 5),
+    line(399, 0),
+    line(399, 22),
+    line(443, 22),
+    line(487, 22),
+];
+
+/// A line of a cutting list.
+pub const fn line(place: u64, length: u64) -> Line {
+    Line { place, length }
+}
+
+/// A record with description "text" whose reserved field is not 0 and whose texts have a space and junk behind them.
+fn record_with_junk(user_id: &[u8], record_id: u16, payload: &[u8]) -> Vec<u8> {
+    let vlr = Vlr {
+        place: 0,
+        user_id,
+        record_id,
+        description: b"text",
+        payload,
+    };
+    let mut record = vec![0; vlr.size()];
+    vlr.write(&mut record);
+    put(&mut record, 0, &[0xBB, 0xAA]);
+    record[2 + user_id.len()] = b' ';
+    record[17] = b'!';
+    record[26] = b' ';
+    record[53] = b'!';
+    record
+}
+
+/// A record of format 0 for the point x, 2x, -x, with two extra bytes.
+fn point_with_extra_bytes(x: i32, returns: u8, class_byte: u8, extra: [u8; 2]) -> Vec<u8> {
+    let mut record = [x, 2 * x, -x].map(i32::to_le_bytes).concat();
+    record.extend([0x2C, 0x01, returns, class_byte, 0xFD, 9, 7, 0]);
+    record.extend(extra);
+    record
 }
 
 fn header() -> Header<'static> {

@@ -3,7 +3,7 @@
 use crate::bytes::{cut, put, u16_at};
 
 /// The size of a record's header.
-const HEAD: usize = 54;
+pub(crate) const HEAD: usize = 54;
 
 /// One variable length record.
 #[derive(Debug, Clone, Copy, PartialEq, Eq)]
@@ -23,13 +23,19 @@ impl<'a> Vlr<'a> {
     /// file up to its points.
     pub(crate) fn read(area: &'a [u8], place: usize) -> Option<Self> {
         let (head, rest) = area.get(place..)?.split_first_chunk::<HEAD>()?;
-        Some(Self {
+        let payload = rest.get(..usize::from(u16_at(head, 20)))?;
+        Some(Self::with_payload(place, head, payload))
+    }
+
+    /// The record at `place` with this header and payload; the length in the header is not looked at.
+    pub(crate) fn with_payload(place: usize, head: &'a [u8; HEAD], payload: &'a [u8]) -> Self {
+        Self {
             place,
             user_id: cut(&head[2..18]),
             record_id: u16_at(head, 18),
             description: cut(&head[22..54]),
-            payload: rest.get(..usize::from(u16_at(head, 20)))?,
-        })
+            payload,
+        }
     }
 
     /// Where the user ID stands in the file.
