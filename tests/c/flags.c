@@ -166,7 +166,7 @@ static void mends(void)
 
 int main(void)
 {
-    HOLDS(las_level() == 4);
+    HOLDS(las_level() == 5);
     reads();
     writes();
     classes();

@@ -14,6 +14,14 @@ static void structs(void)
     AT(las_released, points, 16);
     AT(las_released, records, 24);
 
+    HOLDS(sizeof(las_line) == 16);
+    AT(las_line, place, 0);
+    AT(las_line, length, 8);
+
+    HOLDS(sizeof(las_listed) == 16);
+    AT(las_listed, number, 0);
+    AT(las_listed, lines, 8);
+
     HOLDS(sizeof(las_record) == 80);
     AT(las_record, number, 0);
     AT(las_record, user_place, 8);
@@ -101,6 +109,8 @@ static void nothing(void)
     las_record record = las_vlr_step(NULL, 0, 0, 227);
     las_geokey geokey = las_geokey_find(NULL, 0, 1024);
     las_released released = las_release(NULL, 0, NULL, 0, NULL, 0);
+    las_listed listed = las_cutting_list(NULL, 0, NULL, 0, NULL, 0);
+    las_released by_list = las_release_by_list(NULL, 0, NULL, 0, NULL, 0, NULL, 0);
     las_mended mended = las_mend(NULL, 0);
     las_kept class_kept = las_class_kept(NULL, 0, 2);
     las_class_line class_line = las_class_test(NULL, 0, 2);
@@ -113,6 +123,8 @@ static void nothing(void)
     HOLDS(refusal(&record, sizeof record, 1));
     HOLDS(refusal(&geokey, sizeof geokey, 1));
     HOLDS(refusal(&released, sizeof released, 1));
+    HOLDS(refusal(&listed, sizeof listed, 1));
+    HOLDS(refusal(&by_list, sizeof by_list, 1));
     HOLDS(refusal(&mended, sizeof mended, 1));
     HOLDS(class_kept.number == 0 && class_kept.kept == 0);
     HOLDS(class_line.number == 0 && class_line.kept == 0 && class_line.lines == 0);
@@ -174,7 +186,7 @@ static void others(void)
 
     HOLDS(las_coordinate(-1, 0x3FE0000000000000, 0x4024000000000000) == 0x4023000000000000);
     HOLDS(las_coordinate(1, 0xFFF0000000000001, 0) == 0x7FF8000000000000);
-    HOLDS(las_level() == 4);
+    HOLDS(las_level() == 5);
 }
 
 int main(void)

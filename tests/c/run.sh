@@ -1,5 +1,5 @@
 #!/usr/bin/env bash
-# Tries the header and the static library as a C caller would: the header as C and as C++, and six programs over the
+# Tries the header and the static library as a C caller would: the header as C and as C++, and seven programs over the
 # library.
 # Usage: tests/c/run.sh LIBDIR, the folder with libcapi.a; its last line is 'N passed, M failed'.
 set -u
@@ -63,6 +63,7 @@ holds "mend.c" cc -std=c99 "${strict[@]}" -I"$include" "$here/mend.c" "$library"
 holds "texts.c" cc -std=c99 "${strict[@]}" -I"$include" "$here/texts.c" "$library" -o "$scratch/texts"
 holds "flags.c" cc -std=c99 "${strict[@]}" -I"$include" "$here/flags.c" "$library" -o "$scratch/flags"
 holds "class_test.c" cc -std=c99 "${strict[@]}" -I"$include" "$here/class_test.c" "$library" -o "$scratch/class_test"
+holds "lists.c" cc -std=c99 "${strict[@]}" -I"$include" "$here/lists.c" "$library" -o "$scratch/lists"
 # the lines of the README, with what they take for granted around them: a card's scan and its sheet
 {
     printf '%s\n' '#include "korbishaf.h"' '#include <stdio.h>' '#include <stdlib.h>' 'int main(void) {' \
@@ -91,6 +92,7 @@ add "$scratch/mend"
 add "$scratch/texts"
 add "$scratch/flags"
 add "$scratch/class_test"
+add "$scratch/lists"
 
 echo "$passed passed, $failed failed"
 [ "$failed" -eq 0 ]

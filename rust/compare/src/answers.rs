@@ -12,6 +12,16 @@ pub struct Released {
     pub records: u64,
 }
 
+/// A line of a cutting list: a place in the file and a length.
+pub use korbishaf::sys::las_line as Line;
+
+/// The answer of a cutting list.
+#[derive(Debug, Clone, Copy, PartialEq, Eq, Default)]
+pub struct Listed {
+    pub number: u64,
+    pub lines: u64,
+}
+
 /// The answer of a mending.
 #[derive(Debug, Clone, Copy, PartialEq, Eq, Default)]
 pub struct Mended {

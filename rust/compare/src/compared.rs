@@ -1,5 +1,7 @@
 //! Both sides called on one case: equal answers, equal bytes, whole guards.
 
+mod lists;
+
 use std::collections::{BTreeMap, BTreeSet};
 use std::fmt::Debug;
 
@@ -23,6 +25,8 @@ pub enum Function {
     GeoKeyFind,
     Release,
     Mend,
+    CuttingList,
+    ReleaseByList,
 }
 
 impl Function {
@@ -42,6 +46,8 @@ impl Function {
             Self::GeoKeyFind => file.chain(40..=46).collect(),
             Self::Release => file.chain(sheet).chain([30]).collect(),
             Self::Mend => file.filter(|&number| number != 9).collect(),
+            Self::CuttingList => file.chain(sheet).chain([31]).collect(),
+            Self::ReleaseByList => file.chain(sheet).chain([30, 31]).collect(),
         };
         numbers.insert(0);
         numbers
@@ -219,7 +225,8 @@ impl Compared {
         answer
     }
 
-    /// Releases into an output that held `before`; gives the answer and the output.
+    /// Releases into an output that held `before`; gives the answer and the output. The second way has to give the same
+    /// by a list that is just long enough.
     pub fn release(&mut self, file: &[u8], sheet: &[u8], before: &[u8]) -> (Released, Vec<u8>) {
         let (mut lent_file, mut lent_sheet) = (Lent::new(file), Lent::new(sheet));
         let mut lent_out = Lent::new(before);
@@ -229,6 +236,7 @@ impl Compared {
         self.agree(Function::Release, answer.number, answer, other);
         self.untouched(&[&lent_file, &lent_sheet]);
         self.written(&lent_out, &out, answer.number);
+        self.second_way(file, sheet, before, (answer, lent_out.content()));
         (answer, lent_out.content().to_vec())
     }
 

@@ -7,15 +7,22 @@
 //! * [`spec`] builds valid files and sheets from a description; [`damage`]
 //!   changes single fields of them; [`boundaries`] has files on both sides of each
 //!   file check, [`sheet_ends`] ends of sheets on both sides of each sheet check.
+//! * [`partly_kept`] has files of which a sheet keeps some, and changes of what
+//!   is outside their public part.
 //! * [`rooms`] releases a file into outputs of all telling lengths.
-//! * [`lent::Lent`] lends bytes from the middle of a guarded buffer.
+//! * [`cuttings`] says what every cutting list has to be like.
+//! * [`lent::Lent`] lends bytes from the middle of a guarded buffer, and
+//!   [`lent_list::LentList`] lines from the middle of a guarded list.
 
 pub mod answers;
 pub mod boundaries;
 pub mod compared;
+pub mod cuttings;
 pub mod damage;
 pub mod lent;
+pub mod lent_list;
 pub mod ours;
+pub mod partly_kept;
 pub mod plain;
 pub mod rng;
 pub mod rooms;

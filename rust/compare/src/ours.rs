@@ -1,6 +1,10 @@
 //! The proved library, called through its C interface. Nothing else here calls it.
 
+mod lists;
+
 use korbishaf::sys;
+
+pub use lists::{cutting_list, release_by_list};
 
 use crate::answers::{ClassLine, GeoKey, Header, Kept, Mended, Point, Record, Released};
 use crate::lent::Lent;
@@ -148,10 +152,12 @@ pub fn mend(file: &mut Lent) -> Mended {
 }
 
 /// The answers for empty slices that come as null pointers: check of the
-/// file, check of the sheet, class test, decode, encode, release, mend.
-pub fn on_null_pointers() -> [u64; 7] {
+/// file, check of the sheet, class test, decode, encode, release, mend,
+/// cutting list, release by a list.
+pub fn on_null_pointers() -> [u64; 9] {
     let null = std::ptr::null();
     let null_mut = std::ptr::null_mut();
+    let no_list = std::ptr::null_mut();
     let point = point_argument(&Point::default());
     // SAFETY: where the length is 0 the pointer is not looked at.
     unsafe {
@@ -163,6 +169,8 @@ pub fn on_null_pointers() -> [u64; 7] {
             sys::las_encode(0, 20, point, null_mut, 0),
             sys::las_release(null, 0, null, 0, null_mut, 0).number,
             sys::las_mend(null_mut, 0).number,
+            sys::las_cutting_list(null, 0, null, 0, no_list, 0).number,
+            sys::las_release_by_list(null, 0, null, 0, null_mut, 0, no_list, 0).number,
         ]
     }
 }

@@ -1,6 +1,10 @@
 //! `las_plain`, its answers turned into the same plain numbers.
 
+mod lists;
+
 use las_plain::{GeoValue, LasFile, Refusal};
+
+pub use lists::{cutting_list, release_by_list};
 
 use crate::answers::{ClassLine, GeoKey, Header, Kept, Mended, Point, Record, Released};
 
@@ -125,22 +129,7 @@ pub fn geokey_find(file: &[u8], key: u16) -> GeoKey {
 }
 
 pub fn release(file: &[u8], sheet: &[u8], out: &mut [u8]) -> Released {
-    match las_plain::release(file, sheet, out) {
-        Ok(released) => Released {
-            number: 0,
-            length: released.length,
-            points: released.points,
-            records: released.records,
-        },
-        Err(refusal) => Released {
-            number: refusal.number(),
-            length: match refusal {
-                Refusal::OutputTooShort { needed } => needed,
-                _ => 0,
-            },
-            ..Released::default()
-        },
-    }
+    released_answer(las_plain::release(file, sheet, out))
 }
 
 pub fn mend(file: &mut [u8]) -> Mended {
@@ -158,6 +147,25 @@ pub fn mend(file: &mut [u8]) -> Mended {
 
 fn number(result: Result<(), Refusal>) -> u64 {
     result.map_or_else(Refusal::number, |()| 0)
+}
+
+fn released_answer(result: Result<las_plain::Released, Refusal>) -> Released {
+    match result {
+        Ok(released) => Released {
+            number: 0,
+            length: released.length,
+            points: released.points,
+            records: released.records,
+        },
+        Err(refusal) => Released {
+            number: refusal.number(),
+            length: match refusal {
+                Refusal::OutputTooShort { needed } => needed,
+                _ => 0,
+            },
+            ..Released::default()
+        },
+    }
 }
 
 fn kept_answer(result: Result<bool, Refusal>) -> Kept {
