@@ -17,6 +17,8 @@ pub struct Arguments {
     pub quiet: bool,
     /// Print JSON.
     pub json: bool,
+    /// Have one line for points that stand side by side.
+    pub runs: bool,
     /// Where to write to.
     pub output: Option<OsString>,
     /// The class that is asked about.
@@ -69,6 +71,7 @@ impl Arguments {
             Flag::Force => self.force = true,
             Flag::Quiet => self.quiet = true,
             Flag::Json => self.json = true,
+            Flag::Runs => self.runs = true,
             Flag::Output => set_once(&mut self.output, value.or_else(next), command, flag)?,
             Flag::Class => set_once(&mut self.class, value.or_else(next), command, flag)?,
         }

@@ -18,14 +18,17 @@ pub enum Flag {
     Output,
     /// `--class CLASS`
     Class,
+    /// `--runs`
+    Runs,
 }
 
 impl Flag {
     /// All of them, in the order in which a page lists them.
-    pub const ALL: [Flag; 5] = [
+    pub const ALL: [Flag; 6] = [
         Flag::Force,
         Flag::Quiet,
         Flag::Json,
+        Flag::Runs,
         Flag::Output,
         Flag::Class,
     ];
@@ -38,6 +41,7 @@ impl Flag {
             Flag::Json => "json",
             Flag::Output => "output",
             Flag::Class => "class",
+            Flag::Runs => "runs",
         }
     }
 
@@ -46,7 +50,7 @@ impl Flag {
         match self {
             Flag::Force => Some('f'),
             Flag::Quiet => Some('q'),
-            Flag::Json | Flag::Class => None,
+            Flag::Json | Flag::Class | Flag::Runs => None,
             Flag::Output => Some('o'),
         }
     }
@@ -62,7 +66,7 @@ impl Flag {
     /// What it takes, if it takes something.
     pub fn value(self) -> Option<&'static str> {
         match self {
-            Flag::Force | Flag::Quiet | Flag::Json => None,
+            Flag::Force | Flag::Quiet | Flag::Json | Flag::Runs => None,
             Flag::Output => Some("FILE"),
             Flag::Class => Some("CLASS"),
         }
@@ -84,6 +88,7 @@ impl Flag {
             Flag::Json => "print JSON, for programs",
             Flag::Output => "write the sheet's bytes to FILE",
             Flag::Class => "say which line keeps CLASS, a number from 0 to 255 or a name",
+            Flag::Runs => "have one line for points that stand side by side",
         }
     }
 }

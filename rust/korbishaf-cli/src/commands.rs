@@ -2,6 +2,7 @@
 
 mod explain;
 mod help;
+mod list;
 mod mend;
 mod release;
 mod report;
@@ -19,9 +20,10 @@ use crate::shown;
 use std::ffi::OsString;
 
 /// All commands, in the order in which the help has them.
-const COMMANDS: [&Command; 8] = [
+const COMMANDS: [&Command; 9] = [
     &release::COMMAND,
     &report::COMMAND,
+    &list::COMMAND,
     &show::COMMAND,
     &mend::COMMAND,
     &sheet::COMMAND,

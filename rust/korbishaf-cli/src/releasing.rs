@@ -47,10 +47,15 @@ pub fn release(
 
 /// The length that the released file has, which an output without room is too short for.
 pub fn needed(file: &[u8], sheet: &[u8], progress: &Progress) -> Result<usize, Error> {
-    let length = file.len() as u64;
-    progress.begin_expecting("counting", length, Duration::from_nanos(length / COUNTED));
+    begin_counting(file, progress);
     match bytes::release(file, sheet, &mut []) {
         Ok(released) => Ok(released.length),
         Err(refused) => refused.needed().ok_or(refused),
     }
+}
+
+/// Begins the step that counts the points of a file which go out.
+pub fn begin_counting(file: &[u8], progress: &Progress) {
+    let length = file.len() as u64;
+    progress.begin_expecting("counting", length, Duration::from_nanos(length / COUNTED));
 }

@@ -1,5 +1,9 @@
-//! How much memory the command takes: `release` and `verify` the file, the released file and at most 16 MiB, `show`,
-//! `report` and `mend` the file and at most 16 MiB.
+//! How much memory the command takes: `release` and `verify` the file, the released file and at most 16 MiB, `list` the
+//! file, the list and at most 16 MiB, `show`, `report` and `mend` the file and at most 16 MiB.
+//!
+//! A list takes 16 bytes for each line that it has room for. Those are as many as the file has records and points, or
+//! fewer where the released file has no room for so many: a record takes at least 54 bytes of it and a point its whole
+//! length, and the smaller of the two is taken for each line.
 
 mod common;
 
@@ -92,6 +96,85 @@ fn verify_takes_the_two_files_and_little_more() {
     assert_eq!((ran.status, ran.err.as_str()), (Some(1), ""));
     let last = "3 files: 0 verified, 3 not verified, 0 not read\n";
     assert!(ran.out.ends_with(last), "{}", ran.out);
+}
+
+/// The bytes that `list` takes of memory for the file and for its points that go out, if that is one of so many.
+fn file_and_list(one_of: usize) -> (usize, usize) {
+    (227 + 20 * POINTS, 16 * POINTS.div_ceil(one_of))
+}
+
+#[test]
+fn list_takes_the_file_and_the_list_and_little_more() {
+    for (one_of, words) in [
+        (1, "list in.las sheet.txt"),
+        (1, "list --runs in.las sheet.txt"),
+        (8, "list --json in.las sheet.txt"),
+        (POINTS, "list in.las sheet.txt"),
+    ] {
+        let ((scratch, _), (file, list)) = (folder(one_of), file_and_list(one_of));
+        let ran = look_within(&scratch, file + list + (16 << 20), words);
+        assert_eq!(ran, (Some(0), String::new()), "{words}");
+    }
+}
+
+/// Points of 300 bytes, all of which go out: by the released file's length alone there would be room for more than five
+/// lines for each.
+#[test]
+fn a_list_of_long_points_has_no_more_room_than_points() {
+    const LONG: usize = 350_000;
+    let mut file = FileSpec::bare(0);
+    file.record_length = 300;
+    let mut file = file.bytes();
+    POINT_COUNT.set(&mut file, LONG as u64);
+    file.resize(227 + 300 * LONG, 0);
+    lists_within(&file, "class 0", 16 * LONG);
+}
+
+/// Payloads of 60000 bytes, which would have room for three thousand points each.
+#[test]
+fn a_list_of_long_payloads_has_no_more_room_than_records() {
+    let mut file = FileSpec::bare(0);
+    file.records = vec![projection(34735, vec![1; 60_000]); 700];
+    let sheet = "record LASF_Projection 34735";
+    lists_within(&file.bytes(), sheet, 16 * file.records.len());
+}
+
+/// Asserts that all lists of a file take the file, so many bytes for the list and 16 MiB.
+fn lists_within(file: &[u8], sheet: &str, list: usize) {
+    let scratch = Scratch::new();
+    scratch.write("in.las", file);
+    scratch.write("sheet.txt", sheet);
+    for options in ["", "--runs", "--json"] {
+        let words = format!("list {options} in.las sheet.txt");
+        let ran = look_within(&scratch, file.len() + list + (16 << 20), &words);
+        assert_eq!(ran, (Some(0), String::new()), "{words}");
+    }
+}
+
+/// However little memory there is, words say that it is too little: for the file, for the list, or beside both.
+#[test]
+fn a_list_without_room_is_said() {
+    let ((scratch, _), (file, list)) = (folder(1), file_and_list(1));
+    let short = [
+        "in.las: it does not fit into memory\n",
+        "a list of up to 2000000 parts does not fit into memory\n",
+        "in.las: no memory is left beside it\n",
+    ];
+    let mut seen = [0; 3];
+    for bytes in (0..16).step_by(2).map(|step| step << 20) {
+        for most in [file, file + list] {
+            let (status, said) =
+                look_within(&scratch, most + bytes, "list --runs in.las sheet.txt");
+            match short.iter().position(|words| *words == said) {
+                Some(place) => {
+                    assert_eq!(status, Some(3), "{said}");
+                    seen[place] += 1;
+                }
+                None => assert_eq!((status, said), (Some(0), String::new())),
+            }
+        }
+    }
+    assert!(seen.iter().all(|&count| count > 0), "{seen:?}");
 }
 
 /// The file is mended where it was read to.

@@ -31,7 +31,7 @@ fn commands() -> Vec<String> {
 #[test]
 fn the_help_lists_every_command() {
     let all = [
-        "release", "report", "show", "mend", "sheet", "verify", "explain", "help",
+        "release", "report", "list", "show", "mend", "sheet", "verify", "explain", "help",
     ];
     assert_eq!(commands(), all);
     for words in ["help", "--help", "-h"] {
@@ -95,6 +95,9 @@ fn words_that_are_missing_or_too_many_are_wrong_usage() {
         "report",
         "report a",
         "report a b c",
+        "list",
+        "list a",
+        "list a b c",
         "show",
         "show a b",
         "mend",
@@ -121,7 +124,7 @@ fn words_that_are_missing_or_too_many_are_wrong_usage() {
         );
     }
     let ran = says("relaese a b c");
-    let all = "release, report, show, mend, sheet, verify, explain, help";
+    let all = "release, report, list, show, mend, sheet, verify, explain, help";
     let words = format!("korbishaf: unknown command 'relaese'; the commands are {all}\n");
     assert_eq!(ran, Ran::new(2, "", &words));
     assert_eq!(says("help relaese"), Ran::new(2, "", &words));
@@ -129,7 +132,7 @@ fn words_that_are_missing_or_too_many_are_wrong_usage() {
 
 #[test]
 fn the_version() {
-    let version = concat!("korbishaf ", env!("CARGO_PKG_VERSION"), " (level 4)\n");
+    let version = concat!("korbishaf ", env!("CARGO_PKG_VERSION"), " (level 5)\n");
     assert_eq!(says("--version"), Ran::new(0, version, ""));
     assert_eq!(says("-V"), Ran::new(0, version, ""));
     for option in ["--version", "--help"] {
@@ -139,9 +142,9 @@ fn the_version() {
 }
 
 /// The numbers of the specification.
-const NUMBERS: [u64; 29] = [
-    1, 2, 3, 4, 5, 6, 7, 8, 9, 10, 11, 12, 13, 18, 20, 21, 22, 23, 24, 30, 40, 41, 42, 43, 44, 45,
-    46, 50, 51,
+const NUMBERS: [u64; 30] = [
+    1, 2, 3, 4, 5, 6, 7, 8, 9, 10, 11, 12, 13, 18, 20, 21, 22, 23, 24, 30, 31, 40, 41, 42, 43, 44,
+    45, 46, 50, 51,
 ];
 
 #[test]
@@ -172,6 +175,10 @@ fn every_number_is_explained() {
     let thirteen = "refused 13: a return number, a number of returns or a class is too large to encode\n\
                     Return numbers go up to 7, and classes up to 31. Only calls of the library give this number.\n";
     assert_eq!(says("explain 13").out, thirteen);
+    let thirty_one = "refused 31: the list is shorter than the kept records and points together\n\
+                      Only calls of the library give this number: lend as many lines as the file has \
+                      records and points.\n";
+    assert_eq!(says("explain 31").out, thirty_one);
     assert!(says("explain 9").out.contains("'korbishaf mend'"));
 }
 
@@ -188,7 +195,7 @@ fn what_is_no_number_is_not_explained() {
         "",
     ] {
         let ran = Scratch::new().run(["explain", "--", word]);
-        let words = "expected a number from 1 to 13, 18, 20 to 24, 30, 40 to 46, 50 or 51";
+        let words = "expected a number from 1 to 13, 18, 20 to 24, 30, 31, 40 to 46, 50 or 51";
         assert_eq!((ran.status, ran.out.as_str()), (Some(2), ""));
         assert!(
             ran.err
@@ -198,7 +205,7 @@ fn what_is_no_number_is_not_explained() {
 }
 
 /// What prints, in each command.
-const PRINTING: [&str; 12] = [
+const PRINTING: [&str; 14] = [
     "help",
     "--version",
     "explain",
@@ -209,6 +216,8 @@ const PRINTING: [&str; 12] = [
     "sheet --class 2 sheet.bin",
     "report in.las sheet.bin",
     "report --json in.las sheet.bin",
+    "list in.las sheet.bin",
+    "list --json in.las sheet.bin",
     "verify expected.las sheet.bin",
     "verify in.las sheet.bin",
 ];
@@ -276,12 +285,14 @@ fn a_reader_that_goes_away_is_said() {
     let mut file = FileSpec::bare(0);
     file.records = vec![record(b"yard", 7, 0); 20_000];
     scratch.write("in.las", file.bytes());
-    scratch.write("sheet.txt", "class 2");
+    scratch.write("sheet.txt", "record yard 7");
     for words in [
         "show in.las",
         "show --json in.las",
         "report in.las sheet.txt",
         "report --json in.las sheet.txt",
+        "list in.las sheet.txt",
+        "list --json in.las sheet.txt",
     ] {
         let (mut reader, writer) = std::io::pipe().unwrap();
         let mut command = scratch.command(words.split(' '));

@@ -2,7 +2,11 @@
 //!
 //! A file and a sheet are both plain bytes here, and nothing but their order tells them apart; the functions of the
 //! same names outside this module take a [`Sheet`](crate::Sheet). These answer for any bytes, sheets that do not pass
-//! too, and in the interface's order of refusals: 1 to 10 for the file, 20 to 24 for the sheet, then 30.
+//! too, and in the interface's order of refusals: 1 to 10 for the file, 20 to 24 for the sheet, 31 for a list, then 30.
+
+mod lists;
+
+pub use lists::{cutting_list, cutting_list_into, most_lines, release_by_list};
 
 use crate::error::{Error, passes, passes_or_needs};
 use crate::release::Released;
@@ -97,7 +101,7 @@ pub fn record_kept(sheet: &[u8], user_id: &[u8], record_id: u16) -> Result<bool,
 pub fn release(file: &[u8], sheet: &[u8], out: &mut [u8]) -> Result<Released, Error> {
     // SAFETY: each pointer and the length after it are those of one slice; the output is borrowed for writing, so
     // that it overlaps neither of the others.
-    let released = unsafe {
+    released(unsafe {
         sys::las_release(
             file.as_ptr(),
             file.len() as u64,
@@ -106,12 +110,6 @@ pub fn release(file: &[u8], sheet: &[u8], out: &mut [u8]) -> Result<Released, Er
             out.as_mut_ptr(),
             out.len() as u64,
         )
-    };
-    passes_or_needs(released.number, released.length)?;
-    Ok(Released {
-        length: narrow(released.length),
-        points: released.points,
-        records: released.records,
     })
 }
 
@@ -128,6 +126,15 @@ pub fn release_to_vec(file: &[u8], sheet: &[u8]) -> Result<Vec<u8>, Error> {
         release(file, sheet, &mut out)?;
     }
     Ok(out)
+}
+
+fn released(answer: sys::las_released) -> Result<Released, Error> {
+    passes_or_needs(answer.number, answer.length)?;
+    Ok(Released {
+        length: narrow(answer.length),
+        points: answer.points,
+        records: answer.records,
+    })
 }
 
 fn kept(answer: sys::las_kept) -> Result<bool, Error> {

@@ -133,6 +133,7 @@ pub fn refusal_words(number: u64) -> Option<&'static str> {
         23 => "a line of the sheet has its lowest class above its highest",
         24 => "a 65th line of the sheet begins",
         30 => "the output is shorter than the released file",
+        31 => "the list is shorter than the kept records and points together",
         40 => "there is no GeoKey directory",
         41 => "the GeoKey directory is too short or does not begin 1, 1, 0",
         42 => "the key is not in the GeoKey directory",
@@ -152,9 +153,9 @@ mod tests {
     use std::collections::HashSet;
 
     /// The numbers of the specification.
-    const NUMBERS: [u64; 29] = [
-        1, 2, 3, 4, 5, 6, 7, 8, 9, 10, 11, 12, 13, 18, 20, 21, 22, 23, 24, 30, 40, 41, 42, 43, 44,
-        45, 46, 50, 51,
+    const NUMBERS: [u64; 30] = [
+        1, 2, 3, 4, 5, 6, 7, 8, 9, 10, 11, 12, 13, 18, 20, 21, 22, 23, 24, 30, 31, 40, 41, 42, 43,
+        44, 45, 46, 50, 51,
     ];
 
     #[test]
@@ -221,6 +222,7 @@ mod tests {
             (18..=18, Record),
             (20..=24, Sheet),
             (30..=30, OutputTooShort),
+            (31..=31, ListTooShort),
             (40..=46, GeoKey),
             (50..=51, Program),
         ];

@@ -1,5 +1,6 @@
 //! Korbishaf for Rust: readers of LAS 1.2 files (point formats 0 to 3), and releases of what a keep sheet keeps
-//! of them. [`mend`] sets a header right that lies about its points: their number, points by return and bounds.
+//! of them. [`cutting_list`] says which parts of a file a release takes, for whoever has the file. [`mend`] sets a
+//! header right that lies about its points: their number, points by return and bounds.
 //!
 //! The functions here are thin, safe wrappers of those in Korbishaf's static library, which is proved to do what its
 //! definitions say. Any bytes may be passed. What can't be answered is refused with an [`Error`], which has a
@@ -78,6 +79,7 @@
 #![warn(missing_docs)]
 
 pub mod bytes;
+mod cutting_list;
 mod error;
 mod geokeys;
 mod header;
@@ -89,6 +91,7 @@ mod sheet;
 pub mod sys;
 mod text_field;
 
+pub use cutting_list::{CuttingLine, cutting_list, cutting_list_into, most_lines, release_by_list};
 pub use error::{Error, ErrorKind, refusal_words};
 pub use geokeys::{GeoKeyValue, geokey};
 pub use header::{Guid, Header, check_file, read_header};
@@ -105,7 +108,7 @@ use text_field::cut;
 
 /// The number of the last change request that is in the library: 0 for the base, 1 with [`mend`], 2 where texts are cut
 /// before the spaces at their end, 3 where a class has no [flags](crate#classes-and-flags) in it, 4 with
-/// [`class_test`].
+/// [`class_test`], 5 with [`cutting_list`] and [`release_by_list`].
 #[must_use]
 pub fn level() -> u64 {
     sys::las_level()

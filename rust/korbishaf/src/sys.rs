@@ -6,9 +6,10 @@
 //!
 //! # Safety
 //!
-//! A function that takes a pointer asks that it points to as many bytes as the length after it says (a length
-//! of 0 asks nothing), all of them initialised, and that those behind a `*mut` pointer overlap no other
-//! argument. Nothing else is asked: every function takes any bytes and any numbers, and returns.
+//! A function that takes a pointer asks that it points to as many bytes, or lines, as the length after it says (a
+//! length of 0 asks nothing), all of them initialised, and that those behind a `*mut` pointer overlap no other
+//! argument. A pointer to lines has to be aligned as a [`las_line`], which is to 8 bytes. Nothing else is asked: every
+//! function takes any bytes and any numbers, and returns.
 
 #![allow(non_camel_case_types)]
 
@@ -24,6 +25,26 @@ pub struct las_released {
     pub points: u64,
     /// The number of kept variable length records.
     pub records: u64,
+}
+
+/// A line of a cutting list: a part of the file.
+#[repr(C)]
+#[derive(Clone, Copy, Debug, Default, PartialEq, Eq)]
+pub struct las_line {
+    /// Where it begins.
+    pub place: u64,
+    /// How many bytes it has.
+    pub length: u64,
+}
+
+/// What a cutting list answers.
+#[repr(C)]
+#[derive(Clone, Copy, Debug, Default, PartialEq, Eq)]
+pub struct las_listed {
+    /// 0, or why there is no list.
+    pub number: u64,
+    /// The number of lines: kept records and kept points together.
+    pub lines: u64,
 }
 
 /// One variable length record: its places in the file and cut lengths, and where the next step goes.
@@ -202,7 +223,7 @@ pub struct las_header {
 unsafe extern "C" {
     /// The number of the last change request that is in: 0 for the base, 1 with `las_mend`, 2 where a text's cut has
     /// no spaces at its end, 3 where a class has no flags in it and withheld points are never released, 4 with
-    /// `las_class_test`.
+    /// `las_class_test`, 5 with `las_cutting_list` and `las_release_by_list`.
     pub safe fn las_level() -> u64;
 
     /// 0 if the file passes, otherwise 1 to 10.
@@ -273,6 +294,29 @@ unsafe extern "C" {
         out_length: u64,
     ) -> las_released;
 
+    /// Fills a list with the places and lengths of what a release takes of the file: kept payloads, and then kept
+    /// points. `list_length` counts lines. Numbers: 1 to 10, 20 to 24, 31.
+    pub fn las_cutting_list(
+        file: *const u8,
+        file_length: u64,
+        sheet: *const u8,
+        sheet_length: u64,
+        list: *mut las_line,
+        list_length: u64,
+    ) -> las_listed;
+
+    /// Fills the list, and writes the release from it. Numbers: 1 to 10, 20 to 24, 31, 30.
+    pub fn las_release_by_list(
+        file: *const u8,
+        file_length: u64,
+        sheet: *const u8,
+        sheet_length: u64,
+        out: *mut u8,
+        out_length: u64,
+        list: *mut las_line,
+        list_length: u64,
+    ) -> las_released;
+
     /// Mends number of points, points by return and bounds in the file. Numbers: 1 to 8, 10.
     pub fn las_mend(file: *mut u8, file_length: u64) -> las_mended;
 }
@@ -292,6 +336,8 @@ mod tests {
     #[test]
     fn sizes() {
         assert_eq!(size_of::<las_released>(), 32);
+        assert_eq!(size_of::<las_line>(), 16);
+        assert_eq!(size_of::<las_listed>(), 16);
         assert_eq!(size_of::<las_record>(), 80);
         assert_eq!(size_of::<las_point>(), 56);
         assert_eq!(size_of::<las_geokey>(), 32);
@@ -304,6 +350,8 @@ mod tests {
     #[test]
     fn alignments() {
         assert_eq!(align_of::<las_released>(), 8);
+        assert_eq!(align_of::<las_line>(), 8);
+        assert_eq!(align_of::<las_listed>(), 8);
         assert_eq!(align_of::<las_record>(), 8);
         assert_eq!(align_of::<las_point>(), 8);
         assert_eq!(align_of::<las_geokey>(), 8);
@@ -316,6 +364,8 @@ mod tests {
     #[test]
     fn places() {
         lie_at!(las_released: number 0, length 8, points 16, records 24);
+        lie_at!(las_line: place 0, length 8);
+        lie_at!(las_listed: number 0, lines 8);
         lie_at!(las_record: number 0, user_place 8, user_length 16, record_id 24, description_place 32,
             description_length 40, payload_place 48, payload_length 56, next_index 64, next_position 72);
         lie_at!(las_point: number 0, place 8, gps_time 16, x 24, y 28, z 32, intensity 36, source_id 38, red 40,

@@ -1,6 +1,6 @@
 //! The sample cards damaged in every byte, cut at every length: the wrappers agree with each other, and none panics.
 
-use korbishaf::{Record, Sheet, bytes};
+use korbishaf::{CuttingLine, Record, Sheet, bytes};
 use std::fs;
 use std::path::Path;
 
@@ -64,6 +64,42 @@ fn try_sheet(file: &[u8], sheet: &[u8]) {
             bytes::release(file, sheet, &mut plain_out)
         );
         assert!(out == plain_out);
+        assert!(korbishaf::cutting_list(file, made) == bytes::cutting_list(file, sheet));
+    }
+}
+
+/// What holds of the cutting list of any file and sheet, whose release has this number or, with 0, this length.
+fn try_list(file: &[u8], sheet: &[u8], released: (u64, usize)) {
+    let list = bytes::cutting_list(file, sheet);
+    assert_eq!(number(&list), released.0);
+    let lines = list.as_ref().map_or(0, Vec::len);
+    let mut again = vec![CuttingLine::default(); lines];
+    let (mut out, mut plain_out) = (vec![0xEE; released.1], vec![0xEE; released.1]);
+    let answer = bytes::release_by_list(file, sheet, &mut out, &mut again);
+    assert_eq!(answer, bytes::release(file, sheet, &mut plain_out));
+    assert!(out == plain_out);
+    let Ok(list) = list else {
+        return;
+    };
+    assert!(again == list);
+    assert_eq!(
+        bytes::cutting_list_into(file, sheet, &mut again),
+        Ok(list.len())
+    );
+    assert!(again == list);
+    let (mut end, mut length) = (227, 227);
+    for line in &list {
+        assert!(end <= line.place && line.part_of(file).is_some());
+        end = line.place + line.length;
+        length += line.length as usize;
+    }
+    let answer = answer.unwrap();
+    assert_eq!(list.len() as u64, answer.points + answer.records);
+    assert_eq!(length + 54 * answer.records as usize, released.1);
+    if !list.is_empty() {
+        let refused = bytes::cutting_list_into(file, sheet, &mut again[1..]);
+        assert_eq!(number(&refused), 31);
+        assert!(again == list);
     }
 }
 
@@ -111,6 +147,8 @@ fn try_all(file: &[u8], sheet: &[u8]) -> (u64, u64) {
         assert!((227..=file.len()).contains(&out.len()));
         assert!(bytes::release_to_vec(out, sheet).as_ref() == Ok(out));
     }
+    let length = released.as_ref().map_or(0, Vec::len);
+    try_list(file, sheet, (number(&released), length));
 
     let header = korbishaf::read_header(file);
     assert_eq!(number(&header), of_file);

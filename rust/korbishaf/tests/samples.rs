@@ -107,7 +107,7 @@ fn number<T: std::fmt::Debug>(answer: Result<T, korbishaf::Error>) -> u64 {
 
 #[test]
 fn level() {
-    assert_eq!(korbishaf::level(), 4);
+    assert_eq!(korbishaf::level(), 5);
 }
 
 #[test]
@@ -121,6 +121,8 @@ fn files_p1_p2() {
         assert_eq!(number(korbishaf::geokey(file, 1024)), 1);
         assert_eq!(number(korbishaf::release_to_vec(file, &Sheet::new())), 1);
         assert_eq!(number(bytes::release_to_vec(file, &[])), 1);
+        assert_eq!(number(korbishaf::cutting_list(file, &Sheet::new())), 1);
+        assert_eq!(number(bytes::cutting_list(file, &[])), 1);
     }
     assert_eq!(number(korbishaf::check_file(&[0; 227])), 2);
     assert_eq!(korbishaf::check_file(&p9()), Ok(()));

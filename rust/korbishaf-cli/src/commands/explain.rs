@@ -21,7 +21,7 @@ them. The numbers are the same for this tool, the library and the program las_re
 };
 
 /// What can be done about each number.
-const ADVICE: [(u64, &str); 29] = [
+const ADVICE: [(u64, &str); 30] = [
     (
         1,
         "The file is too short to have a LAS header. Was it copied whole?",
@@ -97,6 +97,10 @@ const ADVICE: [(u64, &str); 29] = [
         "Only calls of the library give this number: the answer has the length that the output needs.",
     ),
     (
+        31,
+        "Only calls of the library give this number: lend as many lines as the file has records and points.",
+    ),
+    (
         40,
         "The file does not say where on Earth it is, or the record with that was not kept.",
     ),
@@ -137,7 +141,7 @@ fn run(arguments: &Arguments) -> Result<(), Failure> {
     match number.and_then(explained) {
         Some(text) => console::print(text.as_bytes()),
         None => Err(COMMAND.misused(&format!(
-            "expected a number from 1 to 13, 18, 20 to 24, 30, 40 to 46, 50 or 51, found '{}'",
+            "expected a number from 1 to 13, 18, 20 to 24, 30, 31, 40 to 46, 50 or 51, found '{}'",
             shown::name(word)
         ))),
     }

@@ -1,13 +1,15 @@
-//! Reports and what `show` prints, of many thousands of damaged files and sheets.
+//! Reports, lists and what `show` prints, of many thousands of damaged files and sheets.
 
 #[path = "../../tests/common/json.rs"]
 mod json;
 
+use super::list::parts::Cutting;
 use super::report::plan::Plan;
-use super::{report, show};
+use super::{list, report, show};
 use crate::facts::Facts;
 use crate::keep_sheet::KeepSheet;
 use crate::progress::Progress;
+use crate::releasing::Stopped;
 use compare::damage::damage;
 use compare::rng::{Rng, seeds};
 use compare::spec::{FileSpec, SheetSpec};
@@ -66,7 +68,7 @@ fn number_of<T>(
 }
 
 #[test]
-fn every_file_and_sheet_is_shown_and_reported_or_refused() {
+fn every_file_and_sheet_is_shown_reported_and_listed_or_refused() {
     std::thread::scope(|scope| {
         for seed in seeds() {
             scope.spawn(move || try_files(seed));
@@ -74,7 +76,7 @@ fn every_file_and_sheet_is_shown_and_reported_or_refused() {
     });
 }
 
-/// Files are shown and, with sheets, reported on in turn.
+/// Files are shown and, with sheets, reported on and listed in turn.
 fn try_files(seed: u64) {
     let mut rng = Rng::new(seed);
     let (mut shown, mut reported) = (0, 0);
@@ -88,6 +90,10 @@ fn try_files(seed: u64) {
         let released = korbishaf::bytes::release_to_vec(&file, &sheet);
         let (found, wanted) = (number_reported(&file, &sheet), released.map(|_| ()));
         assert_eq!(found, number(wanted), "sheet {index} of seed {seed}");
+        for runs in [false, true] {
+            let listed = number_listed(&file, &sheet, runs);
+            assert_eq!(listed, found, "sheet {index} of seed {seed}");
+        }
         reported += usize::from(found == 0);
     }
     assert!((FILES / 4..FILES / 2).contains(&shown), "{shown}");
@@ -111,5 +117,17 @@ fn number_reported(file: &[u8], sheet: &[u8]) -> u64 {
     let plan = Plan::of(file, &sheet, &Progress::none());
     number_of(plan, |out, plan, json| {
         report::write(out, "in.las", plan, json)
+    })
+}
+
+fn number_listed(file: &[u8], sheet: &[u8], runs: bool) -> u64 {
+    let lines = match list::lines::of(file, sheet, &Progress::none()) {
+        Ok(lines) => lines,
+        Err(Stopped::Refused(refused)) => return refused.number(),
+        Err(Stopped::Failed(failure)) => panic!("{}", failure.words()),
+    };
+    let cutting = Cutting::of(file, &lines, runs);
+    number_of(cutting, |out, cutting, json| {
+        list::write(out, ["in.las", "sheet.bin"], cutting, json)
     })
 }

@@ -21,6 +21,8 @@ pub enum ErrorKind {
     Sheet,
     /// The output is shorter than the released file: 30.
     OutputTooShort,
+    /// The list is shorter than the kept records and points together: 31.
+    ListTooShort,
     /// A GeoKey or its value is not found: 40 to 46.
     GeoKey,
     /// A file of the program `las_release`: 50 and 51, which no function of the library gives.
@@ -38,6 +40,7 @@ impl ErrorKind {
             18 => ErrorKind::Record,
             20..=24 => ErrorKind::Sheet,
             30 => ErrorKind::OutputTooShort,
+            31 => ErrorKind::ListTooShort,
             40..=46 => ErrorKind::GeoKey,
             50 | 51 => ErrorKind::Program,
             _ => ErrorKind::Unknown,
