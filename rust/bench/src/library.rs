@@ -1,6 +1,10 @@
-//! Builds of the proved library, called on slices. All of the program's unsafe code is here and in [`loading`].
+//! Builds of the proved library, called on slices. All of the program's unsafe code is here, in [`lister`] and in
+//! [`loading`].
 
+mod lister;
 mod loading;
+
+pub use lister::Lister;
 
 use korbishaf::sys::{self, las_class_line, las_mended, las_point, las_released};
 
@@ -20,6 +24,7 @@ pub struct Library {
     encode: Encode,
     mender: Option<Mender>,
     tester: Option<Tester>,
+    lister: Option<Lister>,
 }
 
 /// What mends files in a build.
@@ -40,6 +45,10 @@ impl Library {
             encode: sys::las_encode,
             mender: Some(Mender(sys::las_mend)),
             tester: Some(Tester(sys::las_class_test)),
+            lister: Some(Lister {
+                cutting_list: sys::las_cutting_list,
+                release_by_list: sys::las_release_by_list,
+            }),
         }
     }
 
@@ -83,6 +92,11 @@ impl Library {
     /// What tests classes, but in a build that is older than the class test.
     pub fn tester(&self) -> Option<Tester> {
         self.tester
+    }
+
+    /// What makes cutting lists and releases by them, but in a build that is older than these.
+    pub fn lister(&self) -> Option<Lister> {
+        self.lister
     }
 }
 

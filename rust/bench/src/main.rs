@@ -2,8 +2,9 @@
 //! where one is given.
 //!
 //! Run it with `cargo run --release -p bench`, or with `-- --before SHARED_OBJECT`. Each figure is a median; the sides
-//! take turns, and before each turn the output is cleared, or a file that is mended gets its first header again. With
-//! `-- --tool PROGRAM FOLDER` it times the command `korbishaf` instead, on files in that folder.
+//! take turns, and before each turn the output and the list are cleared, or a file that is mended gets its first header
+//! again. With `-- --tool PROGRAM FOLDER` it times the command `korbishaf` instead, on files in that folder, and with
+//! `-- --records A.so B.so [A.so B.so ..]` pairs of builds on records.
 
 mod builds;
 mod calls;
@@ -12,6 +13,7 @@ mod class_tests;
 mod each;
 mod growth;
 mod library;
+mod lists;
 mod mendings;
 mod records;
 mod releases;
@@ -25,26 +27,31 @@ use std::ffi::OsString;
 use std::path::Path;
 use std::process::ExitCode;
 
-use builds::Builds;
+use builds::{Builds, Pair};
 
 fn main() -> ExitCode {
     let arguments: Vec<OsString> = std::env::args_os().skip(1).collect();
-    if let [option, program, folder] = arguments.as_slice()
-        && option == "--tool"
-    {
-        tool::compare(Path::new(program), Path::new(folder));
-        return ExitCode::SUCCESS;
-    }
-    match Builds::asked_for(&arguments) {
-        Ok(builds) => {
-            compare(&builds);
-            ExitCode::SUCCESS
-        }
+    match run(&arguments) {
+        Ok(()) => ExitCode::SUCCESS,
         Err(why) => {
             eprintln!("{why}");
             ExitCode::from(2)
         }
     }
+}
+
+/// Does what the arguments ask for, or says why not.
+fn run(arguments: &[OsString]) -> Result<(), String> {
+    match arguments {
+        [option, program, folder] if option == "--tool" => {
+            tool::compare(Path::new(program), Path::new(folder));
+        }
+        [option, paths @ ..] if option == "--records" => {
+            records::pairs::compare(&Pair::asked_for(paths)?);
+        }
+        _ => compare(&Builds::asked_for(arguments)?),
+    }
+    Ok(())
 }
 
 fn compare(builds: &Builds) {
@@ -66,4 +73,6 @@ fn compare(builds: &Builds) {
     calls::compare(builds);
     println!();
     class_tests::compare(builds);
+    println!();
+    lists::compare(builds);
 }

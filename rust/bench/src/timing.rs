@@ -31,6 +31,13 @@ fn median(times: &mut [Duration]) -> Duration {
     times[times.len() / 2]
 }
 
+/// The middle one of some figures, or halfway between the two in the middle.
+pub fn middle(mut figures: Vec<f64>) -> f64 {
+    figures.sort_by(f64::total_cmp);
+    let (below, above) = ((figures.len() - 1) / 2, figures.len() / 2);
+    f64::midpoint(figures[below], figures[above])
+}
+
 /// How many times longer `first` is.
 pub fn ratio(first: Duration, second: Duration) -> f64 {
     first.as_secs_f64() / second.as_secs_f64()
@@ -54,6 +61,12 @@ mod tests {
     fn the_middle_time_is_the_median() {
         let mut times = [9, 1, 5, 2, 7].map(Duration::from_millis);
         assert_eq!(median(&mut times), Duration::from_millis(5));
+    }
+
+    #[test]
+    fn the_middle_of_figures_may_be_between_two() {
+        assert_eq!(middle(vec![9.0, 1.0, 4.0]), 4.0);
+        assert_eq!(middle(vec![9.0, 1.0, 4.0, 3.0]), 3.5);
     }
 
     #[test]

@@ -16,7 +16,10 @@ use compare::rng::{FIXED_SEED, Rng};
 use power_cut::folder::ReleaseFolder;
 use power_cut::scan::{self, DROPPED, MARKER};
 
-/// For each length of the output.
+/// Both ways to release, as the program calls them: at once, and by a list that is filled first.
+const WAYS: [&str; 2] = ["release", "by-list"];
+
+/// For each way and each length of the output.
 const TRIALS: usize = ROUNDS * TRIALS_OF_ROUND;
 /// In each round whole releases are timed anew, since other work on the machine comes and goes.
 const ROUNDS: usize = 15;
@@ -30,15 +33,17 @@ fn a_release_that_is_killed_leaves_no_byte_that_is_not_released() {
     assert!((90_000..110_000).contains(&answer.points));
     assert_eq!(answer.records, 1);
     let lengths = [file.len(), answer.length as usize];
-    let outcomes = lengths.map(|length| cut_releases(&file, &sheet, &room[..length]));
-    for outcome in outcomes {
+    let outcomes =
+        WAYS.map(|way| lengths.map(|length| cut_releases(way, &file, &sheet, &room[..length])));
+    for outcome in outcomes.iter().flatten() {
         assert!(outcome.leaks.is_empty(), "{outcome}");
         assert!(outcome.cut >= TRIALS / 5, "too few: {outcome}");
     }
 }
 
-/// What came of the trials with one length of the output.
+/// What came of the trials of one way with one length of the output.
 struct Outcome {
+    way: &'static str,
     length: usize,
     /// How many had begun to write and not ended.
     cut: usize,
@@ -48,11 +53,9 @@ struct Outcome {
 
 impl fmt::Display for Outcome {
     fn fmt(&self, f: &mut fmt::Formatter) -> fmt::Result {
-        let (length, cut, leaks) = (self.length, self.cut, self.leaks.len());
-        write!(
-            f,
-            "output of {length} bytes: {TRIALS} releases killed, {cut} of them while writing, "
-        )?;
+        let (cut, leaks) = (self.cut, self.leaks.len());
+        write!(f, "{}, output of {} bytes: ", self.way, self.length)?;
+        write!(f, "{TRIALS} releases killed, {cut} of them while writing, ")?;
         write!(f, "{leaks} left bytes that are not released")?;
         if let Some(place) = self.leaks.iter().min() {
             write!(f, " (from place {place} on)")?;
@@ -62,9 +65,9 @@ impl fmt::Display for Outcome {
 }
 
 /// Kills releases into an output of the length of `released`, which is what they write where they are let be.
-fn cut_releases(file: &[u8], sheet: &[u8], released: &[u8]) -> Outcome {
+fn cut_releases(way: &'static str, file: &[u8], sheet: &[u8], released: &[u8]) -> Outcome {
     assert!(!released.contains(&DROPPED));
-    let folder = ReleaseFolder::new(file, sheet, vec![MARKER; released.len()]);
+    let folder = ReleaseFolder::new(way, file, sheet, vec![MARKER; released.len()]);
     let mut rng = Rng::new(FIXED_SEED);
     let (mut cut, mut leaks) = (0, Vec::new());
     for _ in 0..ROUNDS {
@@ -78,7 +81,12 @@ fn cut_releases(file: &[u8], sheet: &[u8], released: &[u8]) -> Outcome {
         }
     }
     let length = released.len();
-    let outcome = Outcome { length, cut, leaks };
+    let outcome = Outcome {
+        way,
+        length,
+        cut,
+        leaks,
+    };
     // Written past the test harness, which keeps what a passing test prints.
     let line = format!("{outcome}\n");
     std::io::stderr().write_all(line.as_bytes()).ok();

@@ -4,6 +4,7 @@ use std::ffi::{CStr, CString, c_char, c_int, c_void};
 use std::mem::transmute;
 use std::path::Path;
 
+use super::lister::{CuttingList, Lister, ReleaseByList};
 use super::{CheckFile, ClassTest, Decode, Encode, Library, Mend, Mender, Release, Tester};
 
 unsafe extern "C" {
@@ -21,6 +22,8 @@ impl Library {
         let find = |name| function(object, name);
         let mend = find(c"las_mend").ok();
         let class_test = find(c"las_class_test").ok();
+        let lists =
+            find(c"las_cutting_list").and_then(|list| Ok((list, find(c"las_release_by_list")?)));
         // SAFETY: the header of every build declares functions of these names with these types, if it has them.
         unsafe {
             Ok(Self {
@@ -30,6 +33,10 @@ impl Library {
                 encode: transmute::<*mut c_void, Encode>(find(c"las_encode")?),
                 mender: mend.map(|mend| Mender(transmute::<*mut c_void, Mend>(mend))),
                 tester: class_test.map(|test| Tester(transmute::<*mut c_void, ClassTest>(test))),
+                lister: lists.ok().map(|(list, release)| Lister {
+                    cutting_list: transmute::<*mut c_void, CuttingList>(list),
+                    release_by_list: transmute::<*mut c_void, ReleaseByList>(release),
+                }),
             })
         }
     }

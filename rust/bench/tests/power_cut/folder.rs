@@ -9,6 +9,8 @@ use std::time::{Duration, Instant};
 
 /// The folder, which goes with the value.
 pub struct ReleaseFolder {
+    /// How the program is to release, in its own word.
+    way: &'static str,
     folder: PathBuf,
     output: File,
     /// What the output holds before each release.
@@ -16,7 +18,7 @@ pub struct ReleaseFolder {
 }
 
 impl ReleaseFolder {
-    pub fn new(file: &[u8], sheet: &[u8], before: Vec<u8>) -> Self {
+    pub fn new(way: &'static str, file: &[u8], sheet: &[u8], before: Vec<u8>) -> Self {
         let folder = std::env::temp_dir().join(format!("power-cut-{}", std::process::id()));
         fs::create_dir_all(&folder).expect("the folder is made");
         fs::write(folder.join("file"), file).expect("the file is written");
@@ -25,6 +27,7 @@ impl ReleaseFolder {
         let options = options.read(true).write(true).create_new(true);
         let output = options.open(folder.join("output"));
         Self {
+            way,
             output: output.expect("the output is made"),
             folder,
             before,
@@ -81,6 +84,7 @@ impl Release {
             .write_all_at(&folder.before, 0)
             .expect("the output is filled");
         let mut process = Command::new(env!("CARGO_BIN_EXE_release_into"))
+            .arg(folder.way)
             .args(["file", "sheet", "output"].map(|name| folder.folder.join(name)))
             .stdin(Stdio::piped())
             .stdout(Stdio::piped())
