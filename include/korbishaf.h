@@ -19,8 +19,9 @@
  *   las_line is, to 8 bytes.
  * - `number` is 0 for an answer and otherwise says why there is none (see the
  *   table). The first check that fails is the one that is given. On a refusal
- *   every field but `number` is 0, and all that is lent is unchanged.
- *   30 alone also gives the needed length, in `length`.
+ *   every field but `number` is 0, and all that is lent is unchanged. Two things
+ *   stand beside a number: with 30 the needed length, in `length`, and with 42 to
+ *   46 of las_geokey_halve the entries that it read, in `reads`.
  * - Doubles pass as their 64 bits, so that every pattern survives. A result that
  *   is a NaN is 0x7ff8000000000000.
  * - Flags are bytes: 0 is no, anything else is yes; an answer has 0 or 1.
@@ -150,6 +151,15 @@ typedef struct {
     uint64_t length;   /* 34737: the text's length; otherwise 0 */
 } las_geokey;
 
+/* The value of one GeoKey, found by halving, and how many entries of the key directory were read for it. */
+typedef struct {
+    uint64_t number;
+    uint64_t location; /* location, value and length as in las_geokey */
+    uint64_t value;
+    uint64_t length;
+    uint64_t reads; /* 0 to 13; also beside 42 to 46, and 0 beside any other number */
+} las_geokey_read;
+
 /* Whether a sheet keeps something. */
 typedef struct {
     uint64_t number;
@@ -201,7 +211,7 @@ typedef struct {
 
 /* The number of the last change request that is in: 0 for the base, 1 with las_mend, 2 where a text's cut has no spaces
  * at its end, 3 where a class has no flags in it and withheld points are never released, 4 with las_class_test, 5 with
- * las_cutting_list and las_release_by_list. */
+ * las_cutting_list and las_release_by_list, 6 with las_geokey_halve. */
 uint64_t las_level(void);
 
 /* 0 if the file passes, otherwise 1 to 10. */
@@ -250,6 +260,12 @@ las_kept las_record_kept(const uint8_t *sheet, uint64_t sheet_length, const uint
 
 /* The value of a GeoKey, by the first key directory and the first such key in it. Numbers: 1 to 10, 40 to 46. */
 las_geokey las_geokey_find(const uint8_t *file, uint64_t file_length, uint16_t key);
+
+/* The same by halving: of n entries that are left, entry n/2 rounded down, counted from 0, is read. An equal key ends
+ * the search, a larger one leaves the entries before it, a smaller one those after it, and none left is 42. Where the
+ * key IDs of the directory rise strictly, the answer is that of las_geokey_find. In any other directory a key may be
+ * missed, and of equal keys another than the first may be found. Numbers: 1 to 10, 40 to 46. */
+las_geokey_read las_geokey_halve(const uint8_t *file, uint64_t file_length, uint16_t key);
 
 /* Writes what the sheet keeps of the file to `out`, which overlaps no other argument, as a file of its own, and
  * zeros behind it. A line for class 2 keeps synthetic points and key points of class 2 too (a ground key point has the

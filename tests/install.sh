@@ -235,7 +235,7 @@ rust_program "Rust" '../a prefix/share/korbishaf/rust/korbishaf'
 
 if has nm; then
     declared=$(sed -n 's/^[a-z0-9_]* \(las_[a-z_]*\)(.*/\1/p' 'a prefix/include/korbishaf.h' | LC_ALL=C sort)
-    holds "the header: its functions" test "$(wc -l <<<"$declared")" -eq 17
+    holds "the header: its functions" test "$(wc -l <<<"$declared")" -eq 18
     exported=$(nm -D --defined-only 'a prefix/lib/libkorbishaf.so' | awk '{ print $3 }' | LC_ALL=C sort)
     holds "the shared object: its names" test "$exported" = "$declared"
 fi

@@ -87,7 +87,10 @@ first_error() {
         ;;
     *)
         grep -qxE "fn $1::$2: not proved(; it calls .*)?" "$3" || return
-        head="proofs/${2//:://}/Proof[.]antt:[0-9]+:[0-9]+: error: "
+        # a function that calls itself has its proof in a folder named by its cycle of calls, a '+' before its name
+        head=${2//:://}
+        [[ -d crates/$1/proofs/$head ]] || head=$(sed 's|[^/]*$|[+]&|' <<<"$head")
+        head="proofs/$head/Proof[.]antt:[0-9]+:[0-9]+: error: "
         ;;
     esac
     awk -v head="$head" '

@@ -166,7 +166,7 @@ static void mends(void)
 
 int main(void)
 {
-    HOLDS(las_level() == 5);
+    HOLDS(las_level() == 6);
     reads();
     writes();
     classes();

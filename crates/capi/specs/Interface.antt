@@ -17,6 +17,7 @@ use Rattle.reader.specs.OnePoint.{pointAtOf}
 use Rattle.sheet.specs.Sheet.{sheetVerdict}
 use Rattle.sheet.specs.Keeping.{classKept, recordKept, classTest}
 use Rattle.geokeys.specs.GeoKeys.{lookup}
+use Rattle.geokeys.specs.Halving.{lookupByHalving}
 use Rattle.publicpart.specs.Release.{release}
 use Rattle.publicpart.specs.declared.Span.{Span}
 use Rattle.publicpart.specs.Cutting.{cuttingList, releaseByList}
@@ -27,16 +28,17 @@ use Rattle.capi.specs.declared.answers.«las_listed».{«las_listed»}
 use Rattle.capi.specs.declared.answers.«las_kept».{«las_kept»}
 use Rattle.capi.specs.declared.answers.«las_class_line».{«las_class_line»}
 use Rattle.capi.specs.declared.answers.«las_mended».{«las_mended»}
-use Rattle.capi.specs.RecordAnswers.{recordNumbers, geokeyNumbers}
+use Rattle.capi.specs.RecordAnswers.{recordNumbers, geokeyNumbers, readNumbers}
 use Rattle.capi.specs.declared.vlr.«las_record».{«las_record»}
 use Rattle.capi.specs.declared.vlr.«las_geokey».{«las_geokey»}
+use Rattle.capi.specs.declared.vlr.«las_geokey_read».{«las_geokey_read»}
 use Rattle.capi.specs.PointAnswers.{pointNumbers, decodedNumbers, givenPoint}
 use Rattle.capi.specs.declared.point.«las_point».{«las_point»}
 use Rattle.capi.specs.HeaderAnswers.{headerNumbers}
 use Rattle.capi.specs.declared.header.«las_header».{«las_header»}
 
 unfoldable pub lasLevel : ℕ
-lasLevel = 5
+lasLevel = 6
 
 unfoldable pub lasCheckFile : Bytes → ℕ
 lasCheckFile file = numberOf (fileVerdict file)
@@ -75,6 +77,9 @@ lasRecordKept sheet user id = keptNumbers (recordKept sheet user id)
 
 unfoldable pub lasGeokeyFind : Bytes → ℕ → «las_geokey»
 lasGeokeyFind file key = geokeyNumbers (lookup file key)
+
+unfoldable pub lasGeokeyHalve : Bytes → ℕ → «las_geokey_read»
+lasGeokeyHalve file key = readNumbers (lookupByHalving file key)
 
 -- the numbers, and the output afterwards
 unfoldable pub lasRelease : Bytes → Bytes → Bytes → «las_released» × Bytes

@@ -1,5 +1,5 @@
 -- What is found in a file's records, as the numbers that another language is given. On a refusal every field but
--- `number` is 0.
+-- `number` is 0, and but for the entries read.
 -- Assumes nothing.
 use Prim.Native.Nat.{ℕ}
 use Rattle.reader.specs.declared.cursor.RecordPlaces.{RecordPlaces}
@@ -8,8 +8,10 @@ use Rattle.reader.specs.declared.cursor.Step.{Step}
 use Rattle.reader.specs.declared.cursor.Step.the-variants.{Record, Refused}
 use Rattle.geokeys.specs.declared.GeoKey.{GeoKey}
 use Rattle.geokeys.specs.declared.GeoKey.the-variants as found
+use Rattle.geokeys.specs.declared.halving.KeyRead.{KeyRead}
 use Rattle.capi.specs.declared.vlr.«las_record».{«las_record»}
 use Rattle.capi.specs.declared.vlr.«las_geokey».{«las_geokey»}
+use Rattle.capi.specs.declared.vlr.«las_geokey_read».{«las_geokey_read»}
 
 -- a record's places, and the cursor after it
 unfoldable pub foundRecord : RecordPlaces → VlrCursor → «las_record»
@@ -52,3 +54,9 @@ geokeyNumbers (found.Value v) = record { number = 0; location = 0; value = v; le
 geokeyNumbers (found.Double bits) = record { number = 0; location = 34736; value = bits; length = 0 }
 geokeyNumbers (found.Text at n) = record { number = 0; location = 34737; value = at; length = n }
 geokeyNumbers (found.Refused n) = record { number = n; location = 0; value = 0; length = 0 }
+
+-- the same numbers, and the entries read, also beside 42 to 46
+unfoldable pub readNumbers : KeyRead → «las_geokey_read»
+readNumbers r =
+    let g = geokeyNumbers (r .found) in
+    record { number = g .number; location = g .location; value = g .value; length = g .length; reads = r .reads }

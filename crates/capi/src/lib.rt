@@ -6,7 +6,7 @@ pub mod point;
 pub mod vlr;
 
 ghost use mathlib.Core.Path.{_≡_};
-ghost use Rattle.capi.specs.Interface.{lasLevel, lasCheckFile, lasCheckSheet, lasReadHeader, lasVlrStep, lasPointAt, lasDecode, lasEncode, lasCoordinate, lasClassKept, lasClassTest, lasRecordKept, lasGeokeyFind, lasRelease, lasCuttingList, lasReleaseByList, lasMend};
+ghost use Rattle.capi.specs.Interface.{lasLevel, lasCheckFile, lasCheckSheet, lasReadHeader, lasVlrStep, lasPointAt, lasDecode, lasEncode, lasCoordinate, lasClassKept, lasClassTest, lasRecordKept, lasGeokeyFind, lasGeokeyHalve, lasRelease, lasCuttingList, lasReleaseByList, lasMend};
 use crate::answers::kept_numbers;
 use crate::answers::las_class_line;
 use crate::answers::las_kept;
@@ -26,10 +26,13 @@ use crate::point::las_point;
 use crate::point::point_numbers;
 use crate::vlr::geokey_numbers;
 use crate::vlr::las_geokey;
+use crate::vlr::las_geokey_read;
 use crate::vlr::las_record;
+use crate::vlr::read_numbers;
 use crate::vlr::record_numbers;
 use editor::mend::mend;
 use geokeys::find;
+use geokeys::halving::find_by_halving;
 use lasfile::check_file;
 use points::decode;
 use points::encoding::encode;
@@ -51,7 +54,7 @@ use sheet::check_sheet;
 pub extern "C" fn las_level() -> u64
     ensures { λ r. ⌜ r ≡ lasLevel ⌝ }
 {
-    5
+    6
 }
 
 #[no_mangle]
@@ -147,6 +150,14 @@ pub extern "C" fn las_geokey_find(file: &[u8], key: u16) -> las_geokey
     ensures { λ r. ⌜ r ≡ lasGeokeyFind (now (file .entry)) key ⌝ }
 {
     geokey_numbers(find(file, key))
+}
+
+// The same by halving, and the number of entries that were read for it.
+#[no_mangle]
+pub extern "C" fn las_geokey_halve(file: &[u8], key: u16) -> las_geokey_read
+    ensures { λ r. ⌜ r ≡ lasGeokeyHalve (now (file .entry)) key ⌝ }
+{
+    read_numbers(find_by_halving(file, key))
 }
 
 // Changes the output only where it answers 0.

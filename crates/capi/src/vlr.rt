@@ -1,8 +1,9 @@
 // What is found in a file's records, as structs of numbers with C's layout: a step of the walk, and a GeoKey.
 ghost use mathlib.Core.Path.{_≡_};
-ghost use Rattle.capi.specs.RecordAnswers.{foundRecord, noRecord, recordNumbers, geokeyNumbers};
+ghost use Rattle.capi.specs.RecordAnswers.{foundRecord, noRecord, recordNumbers, geokeyNumbers, readNumbers};
 use geokeys::DOUBLES;
 use geokeys::TEXTS;
+use geokeys::halving::KeyRead;
 use reader::cursor;
 
 #[repr(C)]
@@ -25,6 +26,16 @@ pub struct las_geokey {
     pub location: u64,
     pub value: u64,
     pub length: u64,
+}
+
+// What a lookup by halving finds, and how many entries it read.
+#[repr(C)]
+pub struct las_geokey_read {
+    pub number: u64,
+    pub location: u64,
+    pub value: u64,
+    pub length: u64,
+    pub reads: u64,
 }
 
 // The numbers of a record, and of the cursor after it.
@@ -92,5 +103,20 @@ pub(crate) fn geokey_numbers(found: geokeys::GeoKey) -> las_geokey
         geokeys::GeoKey::Double(bits) => geokey(0, DOUBLES, bits, 0),
         geokeys::GeoKey::Text(place, length) => geokey(0, TEXTS, place as u64, length as u64),
         geokeys::GeoKey::Refused(number) => geokey(number, 0, 0, 0),
+    }
+}
+
+// The numbers of a lookup by halving.
+pub(crate) fn read_numbers(read: KeyRead) -> las_geokey_read
+    ensures { λ r. ⌜ r ≡ readNumbers read ⌝ }
+{
+    let found = read.found;
+    let numbers = geokey_numbers(found);
+    las_geokey_read {
+        number: numbers.number,
+        location: numbers.location,
+        value: numbers.value,
+        length: numbers.length,
+        reads: read.reads,
     }
 }

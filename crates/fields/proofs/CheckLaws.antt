@@ -4,12 +4,13 @@ use mathlib.Core.Path.{_≡_, refl, sym, ap, _∙_, subst}
 use Prim.Native.Nat.{ℕ, zero, suc, _≤_, _<_}
 use native.Mathlib.Omega.{arith}
 use mathlib.Core.Bool.{Bool, true, false, _||_, not}
-use mathlib.Core.List.{List, [], _∷_}
+use mathlib.Core.List.{List, [], _∷_, _++_}
 use mathlib.Core.Logic.{_⊎_, inl, inr}
 use borrow.Author.Tests.{lt-ltb}
 use lib.ListN.{take, drop}
 use lib.Dec.{T, eqb, ltb, ltb→lt, nltb→le, not-T}
 use Rattle.fields.specs.Bytes.{Bytes, same}
+use Rattle.fields.specs.Lists.{All}
 use Rattle.fields.specs.declared.Verdict.{Verdict}
 use Rattle.fields.specs.declared.Verdict.the-variants.{Passes, Fails}
 use Rattle.fields.specs.Checks.{Test, _below_, _differs-from_, not-so, _or_, fails, Clear, Check, failIf, firstFailing, then, AllClear}
@@ -122,6 +123,11 @@ pub then-passes : (v w : Verdict) → v ≡ Passes → then v w ≡ w
 unfolding then
 then-passes v w e = rw e
 
+pub then-first : (v w : Verdict) → then v w ≡ Passes → v ≡ Passes
+unfolding then
+then-first Passes w e = refl
+then-first (Fails n) w e = e
+
 pub then-passed : (v w : Verdict) → then v w ≡ Passes → w ≡ Passes
 unfolding then
 then-passed Passes w e = e
@@ -143,20 +149,32 @@ in-parts (suc k) [] = refl
 in-parts (suc k) (c ∷ cs) =
     then-fail (fails (c .1)) (c .0) (firstFailing (take k cs)) (firstFailing (drop k cs)) ∙ ap (failIf (fails (c .1)) (c .0)) (in-parts k cs)
 
--- ---- a number that a table does not have is not given
+-- ---- the numbers of a table
+
+-- all of them have a property
+abbrev pub Numbers : (ℕ → Type 0) → List Check → Type 0
+Numbers P cs = All (λ c. P (c .0)) cs
+
+pub both-numbers : (P : ℕ → Type 0) (cs ds : List Check) → Numbers P cs → Numbers P ds → Numbers P (cs ++ ds)
+both-numbers P [] ds h k = k
+both-numbers P (c ∷ cs) ds h k = (h .0, both-numbers P cs ds (h .1) k)
+
+failed-among : (P : ℕ → Type 0) (b : Bool) (m : ℕ) (v : Verdict) (n : ℕ) → P m → (v ≡ Fails n → P n) → failIf b m v ≡ Fails n → P n
+unfolding failIf
+failed-among P true m v n h later e = let same : m ≡ n = cc in subst P same h
+failed-among P false m v n h later e = later e
+
+-- then the one that is given has it
+pub given-among : (P : ℕ → Type 0) (cs : List Check) → Numbers P cs → (n : ℕ) → firstFailing cs ≡ Fails n → P n
+unfolding firstFailing
+given-among P [] h n e = let z : _≡_ {A = ℕ} 0 1 = cc in absurd (omega arith)
+given-among P (c ∷ cs) h n e = failed-among P (fails (c .1)) (c .0) (firstFailing cs) n (h .0) (given-among P cs (h .1) n) e
 
 -- no check of a table has the number k
 unfoldable pub Without : ℕ → List Check → Type 0
-Without k [] = Unit {0}
-Without k (c ∷ cs) = (eqb (c .0) k ≡ false) × Without k cs
+Without k cs = Numbers (λ n. eqb n k ≡ false) cs
 
-failed-otherwise : (k : ℕ) (b : Bool) (m : ℕ) (v : Verdict) (n : ℕ) → eqb m k ≡ false → (v ≡ Fails n → eqb n k ≡ false)
-    → failIf b m v ≡ Fails n → eqb n k ≡ false
-unfolding failIf
-failed-otherwise k true m v n h later e = let same : m ≡ n = cc in rw same at h
-failed-otherwise k false m v n h later e = later e
-
+-- so that it is not given
 pub never-given : (k : ℕ) (cs : List Check) → Without k cs → (n : ℕ) → firstFailing cs ≡ Fails n → eqb n k ≡ false
-unfolding firstFailing Without
-never-given k [] h n e = let z : _≡_ {A = ℕ} 0 1 = cc in absurd (omega arith)
-never-given k (c ∷ cs) h n e = failed-otherwise k (fails (c .1)) (c .0) (firstFailing cs) n (h .0) (never-given k cs (h .1) n) e
+unfolding Without
+never-given k cs h n e = given-among (λ m. eqb m k ≡ false) cs h n e

@@ -1,1 +1,3 @@
 pub mod SearchLaws
+pub mod HalvingLaws
+pub mod KeyReadLaws

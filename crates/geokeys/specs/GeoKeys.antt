@@ -7,7 +7,7 @@ use mathlib.Core.Option.{Option, none, some}
 use lib.ListN.{length, drop}
 use lib.Dec.{eqb}
 use Rattle.fields.specs.Bytes.{Bytes, part, num, same, pieces}
-use Rattle.fields.specs.Checks.{Check, firstFailing, _below_, _differs-from_, not-so, _or_}
+use Rattle.fields.specs.Checks.{Check, firstFailing, then, _below_, _differs-from_, not-so, _or_}
 use Rattle.fields.specs.declared.Verdict.{Verdict}
 use Rattle.fields.specs.declared.Verdict.the-variants.{Passes, Fails}
 use Rattle.lasfile.specs.Records.{recordAt, places, frontSize}
@@ -72,8 +72,8 @@ unfoldable pub offsetOf : Bytes → ℕ
 offsetOf entry = num (part 6 2 entry)
 
 -- the first entry of a key
-unfoldable pub entryOf : Bytes → ℕ → Option Bytes
-entryOf directory key = first (λ e. eqb (keyOf e) key) (entries directory)
+unfoldable pub entryOf : List Bytes → ℕ → Option Bytes
+entryOf es key = first (λ e. eqb (keyOf e) key) es
 
 abbrev pub entryChecks : Bytes → List Check
 entryChecks entry =
@@ -123,14 +123,33 @@ fromEntry s (some entry) =
     (either (eqb (locationOf entry) 0) (Value (offsetOf entry))
     (inParameters s entry (projectionPlace s (locationOf entry))))
 
--- the value of a key in a directory
-abbrev pub inDirectory : Bytes → Bytes → ℕ → GeoKey
-inDirectory s directory key = answerIf (firstFailing (directoryChecks directory)) (fromEntry s (entryOf directory key))
+-- ---- the directory of a file: the payload of the first record with the record ID 34735
 
-unfoldable pub fromDirectory : Bytes → ℕ → Option ℕ → GeoKey
-fromDirectory s key none = Refused 40
-fromDirectory s key (some at) = inDirectory s (payloadAt s at) key
+unfoldable pub payloadIn : Bytes → Option ℕ → Option Bytes
+payloadIn s none = none
+payloadIn s (some at) = some (payloadAt s at)
 
--- a lookup checks the file, then 40 to 46
+unfoldable pub directoryOf : Bytes → Option Bytes
+directoryOf s = payloadIn s (projectionPlace s 34735)
+
+-- 40, where there is none, and 41
+unfoldable pub directoryVerdict : Option Bytes → Verdict
+directoryVerdict none = Fails 40
+directoryVerdict (some directory) = firstFailing (directoryChecks directory)
+
+unfoldable pub entriesIn : Option Bytes → List Bytes
+entriesIn none = []
+entriesIn (some directory) = entries directory
+
+-- what is searched for a key
+unfoldable pub searched : Bytes → List Bytes
+searched s = entriesIn (directoryOf s)
+
+-- ---- a lookup checks the file, then 40 to 46
+
+-- what is checked before a search: the file, then 40 and 41
+unfoldable pub searchVerdict : Bytes → Verdict
+searchVerdict s = then (fileVerdict s) (directoryVerdict (directoryOf s))
+
 unfoldable pub lookup : Bytes → ℕ → GeoKey
-lookup s key = answerIf (fileVerdict s) (fromDirectory s key (projectionPlace s 34735))
+lookup s key = answerIf (searchVerdict s) (fromEntry s (entryOf (searched s) key))

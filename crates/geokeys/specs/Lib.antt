@@ -1,2 +1,3 @@
 pub mod GeoKeys
+pub mod Halving
 pub mod Places

@@ -1,12 +1,14 @@
 // GeoKey lookups: numbers 40 to 46, or a key's value.
+pub mod halving;
+
 ghost use mathlib.Core.Path.{_≡_};
 ghost use mathlib.Core.Option.{some};
 ghost use Prim.Native.Nat.{_+_, _<_, _^_};
 ghost use Rattle.fields.specs.Checks.{firstFailing};
 ghost use Rattle.fields.specs.declared.Verdict.the-variants.{Passes};
 ghost use Rattle.lasfile.specs.FileChecks.{fileVerdict};
-ghost use Rattle.geokeys.specs.GeoKeys.{isProjection, projectionPlace, payloadAt, directoryChecks, entryOf, inPayload, fromEntry, inDirectory, lookup};
-ghost use Rattle.geokeys.specs.Places.{placeIn, entryIn, Low};
+ghost use Rattle.geokeys.specs.GeoKeys.{isProjection, projectionPlace, payloadAt, directoryChecks, entries, entryOf, inPayload, fromEntry, lookup};
+ghost use Rattle.geokeys.specs.Places.{placeIn, entryIn, Low, placeIf, Searches};
 use fields::Verdict;
 use fields::numbers::number_at;
 use fields::refusals;
@@ -35,7 +37,7 @@ pub const DOUBLES: u64 = 34736;
 pub const TEXTS: u64 = 34737;
 
 // The size of a directory's head, and of an entry, and the places of an entry's fields behind its key.
-const ENTRY: usize = 8;
+pub(crate) const ENTRY: usize = 8;
 
 const LOCATION: usize = 2;
 
@@ -43,9 +45,15 @@ const COUNT: usize = 4;
 
 const VALUE_OFFSET: usize = 6;
 
-enum Found {
+pub(crate) enum Found {
     At(usize),
     Nothing,
+}
+
+// The place of the record whose payload is the directory that is searched; or a refusal's number.
+pub(crate) enum DirectoryAt {
+    Place(usize),
+    Refused(u64),
 }
 
 // Whether the record at a place is of "LASF_Projection" and has this record ID.
@@ -74,7 +82,7 @@ fn find_projection(file: &[u8], id: u64) -> Found
     Found::Nothing
 }
 
-fn payload_at(file: &[u8], at: usize) -> &[u8]
+pub(crate) fn payload_at(file: &[u8], at: usize) -> &[u8]
     requires { ⌜ at + 54 < 2 ^ 64 ⌝ }
     ensures { λ r. ⌜ now r ≡ payloadAt (now (file .entry)) at ⌝ }
 {
@@ -100,9 +108,21 @@ fn check_directory(directory: &[u8]) -> Verdict
     Verdict::Passes
 }
 
+// The place of a directory, where it passes.
+fn checked_at(file: &[u8], at: usize) -> DirectoryAt
+    requires { ⌜ at + 54 < 2 ^ 64 ⌝ }
+    ensures { λ r. ⌜ r ≡ placeIf (firstFailing (directoryChecks (payloadAt (now (file .entry)) at))) at ⌝ }
+{
+    let verdict = check_directory(payload_at(file, at));
+    match verdict {
+        Verdict::Fails(n) => DirectoryAt::Refused(n),
+        Verdict::Passes => DirectoryAt::Place(at),
+    }
+}
+
 // The first entry of a key.
 fn find_entry(directory: &[u8], key: u16) -> Found
-    ensures { λ r. ⌜ entryIn (now (directory .entry)) r ≡ entryOf (now (directory .entry)) key ⌝ }
+    ensures { λ r. ⌜ entryIn (now (directory .entry)) r ≡ entryOf (entries (now (directory .entry))) key ⌝ }
 {
     let mut at = ENTRY;
     let mut left = number_at(directory, 6, 2);
@@ -158,19 +178,37 @@ fn from_entry(file: &[u8], entry: &[u8]) -> GeoKey
     }
 }
 
-// Numbers 41 to 46, or the value of a key in a directory.
-fn in_directory(file: &[u8], directory: &[u8], key: u16) -> GeoKey
+// Numbers 42 to 46, or the value of the entry that a search in a directory found.
+pub(crate) fn at_entry(file: &[u8], directory: &[u8], found: Found) -> GeoKey
     requires { ⌜ fileVerdict (now file) ≡ Passes ⌝ }
-    ensures { λ r. ⌜ r ≡ inDirectory (now (file .entry)) (now (directory .entry)) key ⌝ }
+    ensures { λ r. ⌜ r ≡ fromEntry (now (file .entry)) (entryIn (now (directory .entry)) found) ⌝ }
 {
-    let verdict = check_directory(directory);
-    if let Verdict::Fails(n) = verdict {
-        return GeoKey::Refused(n);
-    }
-    let found = find_entry(directory, key);
     match found {
         Found::At(at) => from_entry(file, slices::part_at(directory, at, ENTRY)),
         Found::Nothing => GeoKey::Refused(refusals::NO_KEY),
+    }
+}
+
+// Numbers 42 to 46, or the value of a key in a directory.
+fn in_directory(file: &[u8], directory: &[u8], key: u16) -> GeoKey
+    requires { ⌜ fileVerdict (now file) ≡ Passes ⌝ }
+    ensures { λ r. ⌜ r ≡ fromEntry (now (file .entry)) (entryOf (entries (now (directory .entry))) key) ⌝ }
+{
+    at_entry(file, directory, find_entry(directory, key))
+}
+
+// Checks the file, then 40 and 41.
+pub(crate) fn find_directory(file: &[u8]) -> DirectoryAt
+    ensures { λ r. ⌜ Searches (now (file .entry)) r ⌝ }
+{
+    let verdict = lasfile::check_file(file);
+    if let Verdict::Fails(n) = verdict {
+        return DirectoryAt::Refused(n);
+    }
+    let found = find_projection(file, DIRECTORY);
+    match found {
+        Found::At(at) => checked_at(file, at),
+        Found::Nothing => DirectoryAt::Refused(refusals::NO_DIRECTORY),
     }
 }
 
@@ -178,13 +216,9 @@ fn in_directory(file: &[u8], directory: &[u8], key: u16) -> GeoKey
 pub fn find(file: &[u8], key: u16) -> GeoKey
     ensures { λ r. ⌜ r ≡ lookup (now (file .entry)) key ⌝ }
 {
-    let verdict = lasfile::check_file(file);
-    if let Verdict::Fails(n) = verdict {
-        return GeoKey::Refused(n);
-    }
-    let found = find_projection(file, DIRECTORY);
-    match found {
-        Found::At(at) => in_directory(file, payload_at(file, at), key),
-        Found::Nothing => GeoKey::Refused(refusals::NO_DIRECTORY),
+    let searched = find_directory(file);
+    match searched {
+        DirectoryAt::Place(at) => in_directory(file, payload_at(file, at), key),
+        DirectoryAt::Refused(n) => GeoKey::Refused(n),
     }
 }

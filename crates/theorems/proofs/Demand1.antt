@@ -2,16 +2,17 @@
 -- check.
 -- Assumes nothing.
 use mathlib.Core.Path.{_≡_, refl, sym, ap, _∙_}
-use Prim.Native.Nat.{ℕ, zero, suc}
+use Prim.Native.Nat.{ℕ, zero, suc, _≤_, _<_}
 use native.Mathlib.Omega.{arith}
-use mathlib.Core.Bool.{Bool, true, false, true≢false}
+use borrow.Author.Tests.{le-leb, lt-leb}
+use mathlib.Core.Bool.{Bool, true, false, true≢false, cond}
 use mathlib.Core.List.{List, [], _∷_, _++_}
-use mathlib.Core.Option.{Option, none, some}
+use mathlib.Core.Option.{Option}
 use lib.ListN.{length, replicate}
-use lib.Dec.{eqb, ltb}
+use lib.Dec.{eqb, ltb, leb}
 use Rattle.fields.specs.Lists.{kept, consIf}
 use Rattle.fields.specs.Bytes.{Bytes}
-use Rattle.fields.specs.Checks.{Check, _below_, not-so, fails, failIf, firstFailing, then, numberOf}
+use Rattle.fields.specs.Checks.{Check, _below_, fails, failIf, firstFailing, then, numberOf}
 use Rattle.fields.specs.declared.Verdict.{Verdict}
 use Rattle.fields.specs.declared.Verdict.the-variants.{Passes, Fails}
 use Rattle.fields.proofs.CheckLaws.{first-fails, Without, never-given}
@@ -27,9 +28,10 @@ use Rattle.reader.specs.declared.cursor.VlrCursor.{VlrCursor}
 use Rattle.reader.specs.OnePoint.{pointChecks, pointIf, pointAtOf}
 use Rattle.sheet.specs.Sheet.{lineChecks, afterLine, linesVerdict, sheetVerdict}
 use Rattle.sheet.specs.Keeping.{keptUnder, keepsClass, keepsRecord, linesFor, testedUnder}
-use Rattle.geokeys.specs.GeoKeys.{directoryChecks, entryChecks, doubleChecks, textChecks, answerIf, either, doubleIn, textIn, inParameters, fromEntry, fromDirectory, lookup, locationOf, payloadAt, entryOf, projectionPlace}
+use Rattle.geokeys.specs.GeoKeys.{entryOf, fromEntry, searched, searchVerdict, lookup}
+use Rattle.geokeys.specs.Halving.{Halved, halve, keyRead, readIf, lookupByHalving}
+use Rattle.geokeys.proofs.KeyReadLaws.{found-is}
 use Rattle.geokeys.specs.declared.GeoKey.{GeoKey}
-use Rattle.geokeys.specs.declared.GeoKey.the-variants.{Value}
 use Rattle.geokeys.specs.declared.GeoKey.the-variants as key
 use Rattle.points.specs.declared.Decoded.{Decoded}
 use Rattle.points.specs.declared.Decoded.the-variants as point
@@ -53,15 +55,16 @@ use Rattle.publicpart.specs.Cutting.{cuttingLines, listVerdict, listUnder, cutt
 use Rattle.publicpart.proofs.CuttingLaws.{by-list-is}
 use Rattle.editor.specs.Mend.{mendBy, mend}
 use Rattle.capi.specs.Answers.{releasedNumbers, listedNumbers, keptNumbers, testedNumbers, markNumbers, mendedNumbers}
-use Rattle.capi.specs.RecordAnswers.{foundRecord, noRecord, recordNumbers, geokeyNumbers}
+use Rattle.capi.specs.RecordAnswers.{foundRecord, noRecord, recordNumbers, geokeyNumbers, readNumbers}
 use Rattle.capi.specs.PointAnswers.{foundPoint, noPoint, pointNumbers, decodedNumbers, givenPoint}
 use Rattle.capi.specs.HeaderAnswers.{foundHeader, noHeader, headerNumbers}
-use Rattle.capi.specs.Interface.{lasCheckFile, lasCheckSheet, lasReadHeader, lasVlrStep, lasPointAt, lasDecode, lasEncode, lasClassKept, lasClassTest, lasRecordKept, lasGeokeyFind, lasRelease, lasCuttingList, lasReleaseByList, lasMend}
-use Rattle.theorems.specs.Terms.{needed, enough, refusal}
-use Rattle.theorems.specs.Tables.{ByTable, linesChecks, sheetChecks, isSome, chosen, valueChecks, parameterChecks, entryTable, keyTable, directoryTable, lookupChecks, releaseChecks, listChecks, byListChecks}
+use Rattle.capi.specs.Interface.{lasCheckFile, lasCheckSheet, lasReadHeader, lasVlrStep, lasPointAt, lasDecode, lasEncode, lasClassKept, lasClassTest, lasRecordKept, lasGeokeyFind, lasGeokeyHalve, lasRelease, lasCuttingList, lasReleaseByList, lasMend}
+use Rattle.theorems.specs.Terms.{needed, enough, refusal, keyRefusal}
+use Rattle.theorems.specs.Tables.{ByTable, linesChecks, sheetChecks, searchChecks, lookupChecks, halvingChecks, releaseChecks, listChecks, byListChecks}
 use Rattle.theorems.specs.Demand1.{NothingChanged, ZerosBeside, EachNumber, Demand1}
 use Rattle.theorems.specs.ZeroWhereAccepted.{isReleased, isZero}
 use Rattle.theorems.proofs.sheet.TestLaws.{numbers-under}
+use Rattle.theorems.proofs.geokeys.LookupTable.{looked-up, search-above, by-entry, before-search}
 use Rattle.theorems.proofs.TableLaws.{joined, without-both, table-laws, follows}
 
 -- ---- a refusal changes nothing lent
@@ -263,109 +266,6 @@ sheet-first sheet = lines-first 64 sheet
 by-sheet : (sheet : Bytes) (number : ℕ) → number ≡ numberOf (sheetVerdict sheet) → ByTable number (sheetChecks sheet)
 by-sheet sheet number e = follows number (sheetChecks sheet) (sheet-above sheet) (e ∙ ap numberOf (sheet-first sheet))
 
--- ---- a lookup
-
--- the number of an answer is that of a table
-abbrev OfTable : GeoKey → List Check → Type 0
-OfTable g cs = geokeyNumbers g .number ≡ numberOf (firstFailing cs)
-
-behind : (cs ds : List Check) (g : GeoKey) → OfTable g ds → OfTable (answerIf (firstFailing cs) g) (cs ++ ds)
-behind cs ds g e = decide (firstFailing cs) ∙ ap numberOf (sym (joined cs ds))
-  where
-    decide : (v : Verdict) → geokeyNumbers (answerIf v g) .number ≡ numberOf (then v (firstFailing ds))
-    decide Passes = unfold answerIf then in e
-    decide (Fails n) = unfold answerIf then geokeyNumbers numberOf in refl
-
-of-chosen : (b : Bool) (g h : GeoKey) (cs ds : List Check) → OfTable g cs → OfTable h ds
-    → OfTable (either b g h) (chosen b cs ds)
-unfolding either chosen
-of-chosen true g h cs ds x y = x
-of-chosen false g h cs ds x y = y
-
--- one table one-table, and what it lets through has the number 0
-one-table : (cs : List Check) (g : GeoKey) → geokeyNumbers g .number ≡ 0 → OfTable (answerIf (firstFailing cs) g) cs
-one-table cs g e = decide (firstFailing cs)
-  where
-    decide : (v : Verdict) → geokeyNumbers (answerIf v g) .number ≡ numberOf v
-    decide Passes = unfold answerIf numberOf in e
-    decide (Fails n) = unfold answerIf geokeyNumbers numberOf in refl
-
--- a first check of what was found
-found-first : (n : ℕ) (cs : List Check) (g : GeoKey) → OfTable g cs → OfTable g ((n, not-so true) ∷ cs)
-unfolding firstFailing failIf fails
-found-first n cs g e = e
-
-double-table : (entry parameters : Bytes) → OfTable (doubleIn entry parameters) (doubleChecks entry parameters)
-unfolding doubleIn geokeyNumbers
-double-table entry parameters = one-table (doubleChecks entry parameters) _ refl
-
-text-table : (entry : Bytes) (at : ℕ) (parameters : Bytes)
-    → OfTable (textIn entry at parameters) (textChecks entry parameters)
-unfolding textIn geokeyNumbers
-text-table entry at parameters = one-table (textChecks entry parameters) _ refl
-
-parameters-table : (s entry : Bytes) (place : Option ℕ)
-    → OfTable (inParameters s entry place) (parameterChecks s entry place)
-unfolding inParameters parameterChecks valueChecks isSome
-parameters-table s entry none = unfold geokeyNumbers numberOf firstFailing failIf fails in refl
-parameters-table s entry (some at) =
-    let parameters : Bytes = payloadAt s at in
-    found-first 45 _ _
-    (of-chosen (eqb (locationOf entry) 34736) (doubleIn entry parameters) (textIn entry at parameters) _ _
-    (double-table entry parameters) (text-table entry at parameters))
-
-value-table : (v : ℕ) → OfTable (Value v) []
-unfolding geokeyNumbers numberOf firstFailing
-value-table v = refl
-
-entry-table : (s : Bytes) (entry : Option Bytes) → OfTable (fromEntry s entry) (keyTable s entry)
-unfolding fromEntry keyTable entryTable isSome
-entry-table s none = unfold geokeyNumbers numberOf firstFailing failIf fails in refl
-entry-table s (some entry) =
-    found-first 42 _ _
-    (behind (entryChecks entry) _ _
-    (of-chosen (eqb (locationOf entry) 0) _ _ [] _ (value-table _) (parameters-table s entry (projectionPlace s (locationOf entry)))))
-
-directory-table : (s : Bytes) (key : ℕ) (place : Option ℕ)
-    → OfTable (fromDirectory s key place) ((40, not-so (isSome place)) ∷ directoryTable s key place)
-unfolding fromDirectory directoryTable isSome
-directory-table s key none = unfold geokeyNumbers numberOf firstFailing failIf fails in refl
-directory-table s key (some at) =
-    found-first 40 _ _ (behind (directoryChecks (payloadAt s at)) _ _ (entry-table s (entryOf (payloadAt s at) key)))
-
-looked-up : (s : Bytes) (key : ℕ) → OfTable (lookup s key) (fileChecks s ++ lookupChecks s key)
-unfolding lookup lookupChecks fileVerdict
-looked-up s key = behind (fileChecks s) _ _ (directory-table s key (projectionPlace s 34735))
-
-chosen-above : (b : Bool) (cs ds : List Check) → Without 0 cs → Without 0 ds → Without 0 (chosen b cs ds)
-unfolding chosen
-chosen-above true cs ds h k = h
-chosen-above false cs ds h k = k
-
-value-above : (s entry : Bytes) (place : Option ℕ) → Without 0 (valueChecks s entry place)
-unfolding valueChecks Without isZero
-value-above s entry none = tt
-value-above s entry (some at) = chosen-above (eqb (locationOf entry) 34736) _ _ (refl, tt) (refl, tt)
-
-entry-above : (s : Bytes) (entry : Option Bytes) → Without 0 (entryTable s entry)
-unfolding entryTable parameterChecks Without isZero
-entry-above s none = tt
-entry-above s (some entry) =
-    let place : Option ℕ = projectionPlace s (locationOf entry) in
-    without-both 0 (entryChecks entry) (chosen (eqb (locationOf entry) 0) [] (parameterChecks s entry place)) (refl, (refl, tt))
-    (chosen-above (eqb (locationOf entry) 0) [] (parameterChecks s entry place) tt (refl, value-above s entry place))
-
-directory-above : (s : Bytes) (key : ℕ) (place : Option ℕ) → Without 0 (directoryTable s key place)
-unfolding directoryTable keyTable Without isZero
-directory-above s key none = tt
-directory-above s key (some at) =
-    let entry : Option Bytes = entryOf (payloadAt s at) key in
-    without-both 0 (directoryChecks (payloadAt s at)) (keyTable s entry) (refl, tt) (refl, entry-above s entry)
-
-lookup-above : (s : Bytes) (key : ℕ) → Without 0 (lookupChecks s key)
-unfolding lookupChecks Without isZero
-lookup-above s key = (refl, directory-above s key (projectionPlace s 34735))
-
 -- ---- a release
 
 room-number : (v : Verdict) (short? : Bool) (m : ℕ) (out : Bytes) (o : Outcome) → releasedNumbers (o .0) .number ≡ 0
@@ -484,6 +384,31 @@ key-zeros (key.Double bits) n e = absurd (omega arith)
 key-zeros (key.Text at m) n e = absurd (omega arith)
 key-zeros (key.Refused m) n e = λ i. record { number = e i; location = 0; value = 0; length = 0 }
 
+-- by halving: with the entries read from 42 on, which are the numbers by the entry
+late : (n m : ℕ) → 42 ≤ n → m ≡ cond (leb 42 n) m 0
+late n m h = rw (le-leb 42 n h)
+
+early : (n m : ℕ) → n < 42 → 0 ≡ cond (leb 42 n) m 0
+early n m h = rw (lt-leb 42 n h)
+
+read-zeros : (file : Bytes) (h : Halved) (n : ℕ) (v : Verdict) → searchVerdict file ≡ v
+    → readNumbers (readIf v (keyRead file h)) .number ≡ suc n
+    → readNumbers (readIf v (keyRead file h)) ≡ keyRefusal (suc n) (h .reads)
+unfolding readNumbers readIf keyRead geokeyNumbers keyRefusal
+read-zeros file h n Passes v e =
+    let zeros = key-zeros (fromEntry file (h .entry)) n e in
+    let reads = late (suc n) (h .reads) (by-entry file (h .entry) n e) in
+    λ i. record {
+      number = zeros i .number;
+      location = zeros i .location;
+      value = zeros i .value;
+      length = zeros i .length;
+      reads = reads i;
+    }
+read-zeros file h n (Fails m) v e =
+    let reads = early (suc n) (h .reads) (omega (arith, before-search file m v, e)) in
+    λ i. record { number = e i; location = 0; value = 0; length = 0; reads = reads i }
+
 -- no check before the room has the number 30
 not-30 : (sheet file : Bytes) (n : ℕ) → then (fileVerdict file) (sheetVerdict sheet) ≡ Fails n → eqb n 30 ≡ false
 unfolding sheetChecks
@@ -539,7 +464,7 @@ mend-zeros Passes s n e = absurd (omega arith)
 mend-zeros (Fails m) s n e = λ i. record { number = e i; marks = replicate 12 0 }
 
 zeros-beside : ZerosBeside
-unfolding lasReadHeader lasVlrStep lasPointAt lasDecode lasClassKept lasClassTest lasRecordKept lasGeokeyFind lasRelease lasCuttingList lasReleaseByList lasMend release roomOr cuttingList mend
+unfolding lasReadHeader lasVlrStep lasPointAt lasDecode lasClassKept lasClassTest lasRecordKept lasGeokeyFind lasGeokeyHalve lookupByHalving lasRelease lasCuttingList lasReleaseByList lasMend release roomOr cuttingList mend
 zeros-beside =
     record {
       read-header = λ file n e. header-zeros (header.headerRead file) n e;
@@ -551,6 +476,7 @@ zeros-beside =
           λ sheet class n e. tested-zeros (testedUnder (sheetVerdict sheet) (keepsClass sheet class) (linesFor sheet class)) n e;
       record-kept = λ sheet user id n e. kept-zeros (keptUnder (sheetVerdict sheet) (keepsRecord sheet (cut user) id)) n e;
       geokey-find = λ file key n e. key-zeros (lookup file key) n e;
+      geokey-halve = λ file key n e. read-zeros file (halve (searched file) key) n (searchVerdict file) refl e;
       release =
           λ file sheet out n e.
           release-zeros (then (fileVerdict file) (sheetVerdict sheet)) (ltb (length out) (needed sheet file)) (needed sheet file) out
@@ -567,9 +493,16 @@ zeros-beside =
 
 -- ---- all of them
 
+-- a lookup, whatever the search that found the entry
+by-search : (file : Bytes) (entry : Option Bytes) (number : ℕ) → number ≡ numberOf (firstFailing (fileChecks file ++ searchChecks file entry))
+    → ByTable number (fileChecks file ++ searchChecks file entry)
+by-search file entry number e =
+    follows number (fileChecks file ++ searchChecks file entry)
+    (without-both 0 (fileChecks file) (searchChecks file entry) (file-above file) (search-above file entry)) e
+
 each-number : EachNumber
-unfolding lasCheckFile lasCheckSheet lasReadHeader lasVlrStep lasPointAt lasDecode lasEncode lasClassKept lasClassTest lasRecordKept lasGeokeyFind lasRelease lasCuttingList lasReleaseByList lasMend
-    cuttingList mend mendVerdict kept consIf header.headerRead stepOf pointAtOf points.decoded encoding.encoded points.decodeChecks encoding.encodeChecks releaseChecks listChecks byListChecks Without isZero
+unfolding lasCheckFile lasCheckSheet lasReadHeader lasVlrStep lasPointAt lasDecode lasEncode lasClassKept lasClassTest lasRecordKept lasGeokeyFind lasGeokeyHalve readNumbers lookup lasRelease lasCuttingList lasReleaseByList lasMend
+    cuttingList mend mendVerdict kept consIf header.headerRead stepOf pointAtOf points.decoded encoding.encoded points.decodeChecks encoding.encodeChecks lookupChecks halvingChecks releaseChecks listChecks byListChecks Without isZero
 each-number =
     record {
       check-file = λ file. follows (numberOf (fileVerdict file)) (fileChecks file) (file-above file) (ap numberOf (file-first file));
@@ -584,9 +517,11 @@ each-number =
       class-test = λ sheet class. by-sheet sheet _ (numbers-under (sheetVerdict sheet) _ _ .0 ∙ kept-number (sheetVerdict sheet) _);
       record-kept = λ sheet user id. by-sheet sheet _ (kept-number (sheetVerdict sheet) _);
       geokey-find =
+          λ file key. by-search file (entryOf (searched file) key) _ (looked-up file (entryOf (searched file) key));
+      geokey-halve =
           λ file key.
-          follows _ (fileChecks file ++ lookupChecks file key)
-          (without-both 0 (fileChecks file) (lookupChecks file key) (file-above file) (lookup-above file key)) (looked-up file key);
+          by-search file (halve (searched file) key .entry) _
+          (ap (λ (g : GeoKey). geokeyNumbers g .number) (found-is file key) ∙ looked-up file (halve (searched file) key .entry));
       release =
           λ file sheet out.
           behind-file file (sheetChecks sheet ++ roomChecks sheet file out) _

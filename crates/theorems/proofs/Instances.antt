@@ -38,7 +38,7 @@ use Rattle.reader.specs.OnePoint.{pointIf, pointAtOf}
 use Rattle.sheet.specs.Keeping.{keptUnder, keepsClass, keepsRecord, containsClass, unless, upToFirst, linesFor, testedUnder, classTest}
 use Rattle.sheet.specs.declared.answers.Tested.the-variants as tested
 use Rattle.fields.specs.Text.{cut}
-use Rattle.geokeys.specs.GeoKeys.{first, orLater, isProjection, projectionPlace, fromDirectory, answerIf, lookup}
+use Rattle.geokeys.specs.GeoKeys.{first, orLater, isProjection, projectionPlace, answerIf, payloadIn, directoryOf, directoryVerdict, searchVerdict, lookup}
 use Rattle.capi.specs.Answers.{listedNumbers, keptNumbers, testedNumbers, mendedNumbers}
 use Rattle.publicpart.specs.declared.Listed.the-variants as listed
 use Rattle.publicpart.specs.Cutting.{named, payloadLine, payloadLines, strides, pieceLines, recordLines, pointLines, cuttingLines, fill, listVerdict, listUnder, cuttingList, recordNamed, publicBy, fillUnless, byListUnder, releaseByList}
@@ -84,11 +84,11 @@ use Rattle.theorems.proofs.capi.OwnBits.{own-bits}
 
 -- ---- what the theorems ask for
 
-all-small : Bytes → Bool
+unfoldable pub all-small : Bytes → Bool
 all-small [] = true
 all-small (b ∷ bs) = ltb b 256 && all-small bs
 
-all-bytes : (s : Bytes) → T (all-small s) → AllBytes s
+pub all-bytes : (s : Bytes) → T (all-small s) → AllBytes s
 unfolding all-small
 all-bytes [] t i = omega arith
 all-bytes (b ∷ bs) t zero = ltb→lt b 256 (and-l (ltb b 256) (all-small bs) t)
@@ -255,7 +255,7 @@ pub record ComputedNumbers : Type 0 where
 
 computed-numbers : ComputedNumbers
 unfolding computed encodeChecks large storedIf encoded header.headerIf headerRead stepOf recordIf pointAtOf pointIf keptUnder testedUnder
-    projectionPlace first orLater isProjection fromDirectory answerIf lookup
+    projectionPlace first orLater isProjection answerIf payloadIn directoryOf directoryVerdict searchVerdict lookup
     headerNumbers noHeader recordNumbers noRecord pointNumbers noPoint decodedNumbers keptNumbers testedNumbers geokeyNumbers isReleased
     lasCheckFile lasCheckSheet lasReadHeader lasVlrStep lasPointAt lasDecode lasEncode lasClassKept lasClassTest lasRecordKept lasGeokeyFind lasRelease lasMend
     mendVerdict mendBy mend mendedNumbers lists-computed lasCuttingList lasReleaseByList listedNumbers

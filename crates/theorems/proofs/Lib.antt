@@ -1,5 +1,6 @@
 pub mod ReleaseLaws
 pub mod TableLaws
+pub mod geokeys
 pub mod Texts
 pub mod Demand1
 pub mod Demand3

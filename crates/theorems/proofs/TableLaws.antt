@@ -1,15 +1,16 @@
 -- A table gives a number exactly where that number's check fails and none before it does.
 -- Assumes nothing.
 use mathlib.Core.Path.{_≡_, refl, sym, ap, _∙_, subst}
-use Prim.Native.Nat.{ℕ, suc}
+use Prim.Native.Nat.{ℕ, suc, _≤_, _<_}
 use native.Mathlib.Omega.{arith}
 use mathlib.Core.Bool.{Bool, true, false, not}
 use mathlib.Core.List.{List, [], _∷_, _++_}
-use lib.Dec.{T}
+use lib.Dec.{T, eqb}
+use borrow.Author.Tests.{ne-eqb}
 use Rattle.fields.specs.Checks.{Test, Clear, Check, fails, failIf, firstFailing, then, numberOf}
 use Rattle.fields.specs.declared.Verdict.{Verdict}
 use Rattle.fields.specs.declared.Verdict.the-variants.{Passes, Fails}
-use Rattle.fields.proofs.CheckLaws.{clear, unclear, none-fails, all-clear, gives, Without}
+use Rattle.fields.proofs.CheckLaws.{clear, unclear, none-fails, all-clear, gives, Numbers, both-numbers, Without}
 use Rattle.theorems.specs.Tables.{Given, ByTable}
 use Rattle.theorems.specs.Demand1.{TableLaws}
 use Rattle.theorems.specs.ZeroWhereAccepted.{isPassing, isZero}
@@ -30,8 +31,7 @@ joined (c ∷ cs) ds =
 
 pub without-both : (n : ℕ) (cs ds : List Check) → Without n cs → Without n ds → Without n (cs ++ ds)
 unfolding Without
-without-both n [] ds h k = k
-without-both n (c ∷ cs) ds h k = (h .0, without-both n cs ds (h .1) k)
+without-both n cs ds h k = both-numbers (λ m. eqb m n ≡ false) cs ds h k
 
 -- ---- the number that is given
 
@@ -90,11 +90,17 @@ table-laws =
       passes = λ cs. (none-fails cs, all-clear cs);
     }
 
--- ---- a number that no check has
+-- ---- the numbers of a table
+
+-- where all are from k on, none is 0
+pub none-zero : (k : ℕ) (cs : List Check) → 0 < k → Numbers (λ n. k ≤ n) cs → Without 0 cs
+unfolding Without
+none-zero k [] low h = tt
+none-zero k (c ∷ cs) low h = (ne-eqb (c .0) 0 (λ e. omega (arith, e, h .0, low)), none-zero k cs low (h .1))
 
 -- ---- a function's number
 
-fails-with : (v : Verdict) (n : ℕ) → numberOf v ≡ suc n → v ≡ Fails (suc n)
+pub fails-with : (v : Verdict) (n : ℕ) → numberOf v ≡ suc n → v ≡ Fails (suc n)
 unfolding numberOf
 fails-with Passes n e = absurd (omega arith)
 fails-with (Fails m) n e = ap Fails e

@@ -18,6 +18,8 @@ use Rattle.lasfile.specs.FileChecks.{fileChecks, mendChecks}
 use Rattle.reader.specs.Steps.{stepChecks}
 use Rattle.reader.specs.OnePoint.{pointChecks}
 use Rattle.sheet.specs.Sheet.{sheetVerdict}
+use Rattle.geokeys.specs.GeoKeys.{searched}
+use Rattle.geokeys.specs.Halving.{halve}
 use Rattle.publicpart.specs.Release.{release}
 use Rattle.publicpart.specs.declared.Span.{Span}
 use Rattle.publicpart.specs.declared.Listed.the-variants.{Refused}
@@ -27,9 +29,9 @@ use Rattle.capi.specs.HeaderAnswers.{noHeader}
 use Rattle.capi.specs.RecordAnswers.{noRecord}
 use Rattle.capi.specs.PointAnswers.{noPoint, givenPoint}
 use Rattle.capi.specs.declared.point.«las_point».{«las_point»}
-use Rattle.capi.specs.Interface.{lasCheckFile, lasCheckSheet, lasReadHeader, lasVlrStep, lasPointAt, lasDecode, lasEncode, lasClassKept, lasClassTest, lasRecordKept, lasGeokeyFind, lasRelease, lasCuttingList, lasReleaseByList, lasMend}
-use Rattle.theorems.specs.Terms.{needed, refusal}
-use Rattle.theorems.specs.Tables.{Given, ByTable, sheetChecks, lookupChecks, releaseChecks, listChecks, byListChecks}
+use Rattle.capi.specs.Interface.{lasCheckFile, lasCheckSheet, lasReadHeader, lasVlrStep, lasPointAt, lasDecode, lasEncode, lasClassKept, lasClassTest, lasRecordKept, lasGeokeyFind, lasGeokeyHalve, lasRelease, lasCuttingList, lasReleaseByList, lasMend}
+use Rattle.theorems.specs.Terms.{needed, refusal, keyRefusal}
+use Rattle.theorems.specs.Tables.{Given, ByTable, sheetChecks, lookupChecks, halvingChecks, releaseChecks, listChecks, byListChecks}
 use Rattle.theorems.specs.ZeroWhereAccepted.{isReleased}
 
 -- a refusal leaves the lent bytes as they were
@@ -90,6 +92,9 @@ pub record ZerosBeside : Type 0 where
   -- where no key is found
   pub geokey-find : (file : Bytes) (key n : ℕ) → lasGeokeyFind file key .number ≡ suc n
       → lasGeokeyFind file key ≡ record { number = suc n; location = 0; value = 0; length = 0 }
+  -- or none by halving, 42 to 46 with the entries read
+  pub geokey-halve : (file : Bytes) (key n : ℕ) → lasGeokeyHalve file key .number ≡ suc n
+      → lasGeokeyHalve file key ≡ keyRefusal (suc n) (halve (searched file) key .reads)
   -- where a release is refused, 30 with the needed length
   pub release : (file sheet out : Bytes) (n : ℕ) → lasRelease file sheet out .0 .number ≡ suc n
       → lasRelease file sheet out .0 ≡ refusal (suc n) (needed sheet file)
@@ -141,6 +146,9 @@ pub record EachNumber : Type 0 where
   -- 1 to 10, then 40 to 46
   pub geokey-find : (file : Bytes) (key : ℕ)
       → ByTable (lasGeokeyFind file key .number) (fileChecks file ++ lookupChecks file key)
+  -- 1 to 10, then 40 to 46
+  pub geokey-halve : (file : Bytes) (key : ℕ)
+      → ByTable (lasGeokeyHalve file key .number) (fileChecks file ++ halvingChecks file key)
   -- 1 to 10, then 20 to 24, then 30
   pub release : (file sheet out : Bytes) → ByTable (lasRelease file sheet out .0 .number) (releaseChecks sheet file out)
   -- 1 to 10, then 20 to 24, then 31

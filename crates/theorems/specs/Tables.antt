@@ -13,7 +13,8 @@ use Rattle.fields.specs.Bytes.{Bytes}
 use Rattle.fields.specs.Checks.{Test, Clear, Check, AllClear, _below_, not-so}
 use Rattle.lasfile.specs.FileChecks.{fileChecks}
 use Rattle.sheet.specs.Sheet.{lineChecks, afterLine}
-use Rattle.geokeys.specs.GeoKeys.{projectionPlace, payloadAt, directoryChecks, entryOf, entryChecks, locationOf, doubleChecks, textChecks}
+use Rattle.geokeys.specs.GeoKeys.{projectionPlace, payloadAt, directoryChecks, entryOf, entryChecks, locationOf, doubleChecks, textChecks, directoryOf, searched}
+use Rattle.geokeys.specs.Halving.{halve}
 use Rattle.publicpart.specs.declared.Span.{Span}
 use Rattle.theorems.specs.Terms.{needed, enough}
 
@@ -78,13 +79,22 @@ entryTable s (some entry) =
 unfoldable pub keyTable : Bytes → Option Bytes → List Check
 keyTable s entry = (42, not-so (isSome entry)) ∷ entryTable s entry
 
--- 41 to 46, of the place of the directory
-unfoldable pub directoryTable : Bytes → ℕ → Option ℕ → List Check
-directoryTable s key none = []
-directoryTable s key (some at) = directoryChecks (payloadAt s at) ++ keyTable s (entryOf (payloadAt s at) key)
+-- 41, of the directory, if there is one
+unfoldable pub directoryTable : Option Bytes → List Check
+directoryTable none = []
+directoryTable (some directory) = directoryChecks directory
 
+-- 40 to 46, of the entry that a search in the file's directory found
+unfoldable pub searchChecks : Bytes → Option Bytes → List Check
+searchChecks s entry = (40, not-so (isSome (directoryOf s))) ∷ (directoryTable (directoryOf s) ++ keyTable s entry)
+
+-- the first entry of the key
 unfoldable pub lookupChecks : Bytes → ℕ → List Check
-lookupChecks s key = (40, not-so (isSome (projectionPlace s 34735))) ∷ directoryTable s key (projectionPlace s 34735)
+lookupChecks s key = searchChecks s (entryOf (searched s) key)
+
+-- the entry that halving comes to
+unfoldable pub halvingChecks : Bytes → ℕ → List Check
+halvingChecks s key = searchChecks s (halve (searched s) key .entry)
 
 -- ---- the release: file (1 to 10), sheet (20 to 24), room (30)
 

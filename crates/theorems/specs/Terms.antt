@@ -1,10 +1,10 @@
 -- Terms of the theorems: a file that passes, the released file's length, the length of its cutting list, what a refused
--- release answers, an accepted release, and its output read as a file.
+-- release and a refused lookup by halving answer, an accepted release, and its output read as a file.
 -- Assumes nothing.
 use mathlib.Core.Path.{_≡_}
 use Prim.Native.Nat.{ℕ}
 use mathlib.Core.Bool.{cond}
-use lib.Dec.{eqb}
+use lib.Dec.{eqb, leb}
 use lib.ListN.{length, take}
 use Rattle.fields.specs.Bytes.{Bytes, AllBytes}
 use Rattle.fields.specs.declared.Verdict.the-variants.{Passes}
@@ -15,6 +15,7 @@ use Rattle.publicpart.specs.Cutting.{keptTogether}
 use Rattle.publicpart.specs.declared.Answer.the-variants.{Released}
 use Rattle.publicpart.specs.Release.{release}
 use Rattle.capi.specs.declared.answers.«las_released».{«las_released»}
+use Rattle.capi.specs.declared.vlr.«las_geokey_read».{«las_geokey_read»}
 
 pub record Good (s : Bytes) : Type 0 where
   -- a file is bytes
@@ -33,6 +34,10 @@ enough sheet file = keptTogether (publicOf sheet file)
 -- what a release answers where it is refused with the number n: 30 has the needed length m beside it
 unfoldable pub refusal : ℕ → ℕ → «las_released»
 refusal n m = record { number = n; length = cond (eqb n 30) m 0; points = 0; records = 0 }
+
+-- what a lookup by halving answers where it is refused with the number n: from 42 on it has the m entries read beside it
+unfoldable pub keyRefusal : ℕ → ℕ → «las_geokey_read»
+keyRefusal n m = record { number = n; location = 0; value = 0; length = 0; reads = cond (leb 42 n) m 0 }
 
 pub record Accepted (sheet f a : Bytes) (n points records : ℕ) : Type 0 where
   -- the source f is bytes

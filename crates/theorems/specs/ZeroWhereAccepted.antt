@@ -24,6 +24,7 @@ use Rattle.reader.specs.declared.point.PointAt.{PointAt}
 use Rattle.reader.specs.declared.point.PointAt.the-variants as place
 use Rattle.sheet.specs.Sheet.{sheetVerdict}
 use Rattle.geokeys.specs.GeoKeys.{lookup}
+use Rattle.geokeys.specs.Halving.{lookupByHalving}
 use Rattle.geokeys.specs.declared.GeoKey.{GeoKey}
 use Rattle.geokeys.specs.declared.GeoKey.the-variants as key
 use Rattle.publicpart.specs.Release.{release}
@@ -36,7 +37,7 @@ use Rattle.publicpart.specs.declared.Answer.the-variants as answer
 use Rattle.editor.specs.Mend.{mend}
 use Rattle.capi.specs.PointAnswers.{givenPoint}
 use Rattle.capi.specs.declared.point.«las_point».{«las_point»}
-use Rattle.capi.specs.Interface.{lasCheckFile, lasCheckSheet, lasReadHeader, lasVlrStep, lasPointAt, lasDecode, lasEncode, lasClassKept, lasClassTest, lasRecordKept, lasGeokeyFind, lasRelease, lasCuttingList, lasReleaseByList, lasMend}
+use Rattle.capi.specs.Interface.{lasCheckFile, lasCheckSheet, lasReadHeader, lasVlrStep, lasPointAt, lasDecode, lasEncode, lasClassKept, lasClassTest, lasRecordKept, lasGeokeyFind, lasGeokeyHalve, lasRelease, lasCuttingList, lasReleaseByList, lasMend}
 
 -- ---- which answers are accepted
 
@@ -109,6 +110,9 @@ pub record ZeroWhereAccepted : Type 0 where
       → isZero (lasRecordKept sheet user id .number) ≡ isPassing (sheetVerdict sheet)
   -- a key is found
   pub geokey-find : (file : Bytes) (k : ℕ) → isZero (lasGeokeyFind file k .number) ≡ isFound (lookup file k)
+  -- a key is found by halving
+  pub geokey-halve : (file : Bytes) (k : ℕ)
+      → isZero (lasGeokeyHalve file k .number) ≡ isFound (lookupByHalving file k .found)
   -- a release is accepted
   pub release : (file sheet out : Bytes)
       → isZero (lasRelease file sheet out .0 .number) ≡ isReleased (release sheet file out .0)

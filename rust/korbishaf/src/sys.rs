@@ -2,7 +2,8 @@
 //!
 //! The rules of that header hold: a run of bytes passes as a pointer and then its length, and where the length
 //! is 0 the pointer is not looked at; on a refusal every field but `number` is 0, and nothing lent is changed
-//! (30 also gives the needed length); doubles pass as their 64 bits; flags are bytes, 0 for no.
+//! (30 also gives the needed length, and 42 to 46 of [`las_geokey_halve`] the entries read); doubles pass as
+//! their 64 bits; flags are bytes, 0 for no.
 //!
 //! # Safety
 //!
@@ -133,6 +134,22 @@ pub struct las_geokey {
     pub value: u64,
     /// For 34737 the text's length, otherwise 0.
     pub length: u64,
+}
+
+/// The value of one GeoKey, found by halving, and how many entries of the key directory were read for it.
+#[repr(C)]
+#[derive(Clone, Copy, Debug, Default, PartialEq, Eq)]
+pub struct las_geokey_read {
+    /// 0, or why there is no value.
+    pub number: u64,
+    /// As in [`las_geokey`].
+    pub location: u64,
+    /// As in [`las_geokey`].
+    pub value: u64,
+    /// As in [`las_geokey`].
+    pub length: u64,
+    /// 0 to 13; also beside 42 to 46, and 0 beside any other number.
+    pub reads: u64,
 }
 
 /// Whether a sheet keeps something.
@@ -284,6 +301,9 @@ unsafe extern "C" {
     /// The value of a GeoKey. Numbers: 1 to 10, 40 to 46.
     pub fn las_geokey_find(file: *const u8, file_length: u64, key: u16) -> las_geokey;
 
+    /// The value of a GeoKey by halving, and the entries read for it. Numbers: 1 to 10, 40 to 46.
+    pub fn las_geokey_halve(file: *const u8, file_length: u64, key: u16) -> las_geokey_read;
+
     /// Writes what the sheet keeps of the file to `out`, and zeros behind it. Numbers: 1 to 10, 20 to 24, 30.
     pub fn las_release(
         file: *const u8,
@@ -341,6 +361,7 @@ mod tests {
         assert_eq!(size_of::<las_record>(), 80);
         assert_eq!(size_of::<las_point>(), 56);
         assert_eq!(size_of::<las_geokey>(), 32);
+        assert_eq!(size_of::<las_geokey_read>(), 40);
         assert_eq!(size_of::<las_kept>(), 16);
         assert_eq!(size_of::<las_class_line>(), 24);
         assert_eq!(size_of::<las_header>(), 288);
@@ -355,6 +376,7 @@ mod tests {
         assert_eq!(align_of::<las_record>(), 8);
         assert_eq!(align_of::<las_point>(), 8);
         assert_eq!(align_of::<las_geokey>(), 8);
+        assert_eq!(align_of::<las_geokey_read>(), 8);
         assert_eq!(align_of::<las_kept>(), 8);
         assert_eq!(align_of::<las_class_line>(), 8);
         assert_eq!(align_of::<las_header>(), 8);
@@ -372,6 +394,7 @@ mod tests {
             green 42, blue 44, return_number 46, returns 47, classification 48, user_data 49,
             scan_direction 50, edge 51, scan_angle 52, synthetic 53, key_point 54, withheld 55);
         lie_at!(las_geokey: number 0, location 8, value 16, length 24);
+        lie_at!(las_geokey_read: number 0, location 8, value 16, length 24, reads 32);
         lie_at!(las_kept: number 0, kept 8);
         lie_at!(las_class_line: number 0, kept 8, lines 16);
         lie_at!(las_mended: number 0, marks 8);

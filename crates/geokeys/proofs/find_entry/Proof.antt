@@ -10,11 +10,11 @@ use borrow.Author.Tests.{eq-eqb, ne-eqb}
 use lib.ListN.{drop}
 use lib.Dec.{eqb}
 use Rattle.fields.specs.Bytes.{Bytes, part, num, pieces}
-use Rattle.fields.proofs.ByteLaws.{part-part, pieces-step}
+use Rattle.fields.proofs.ByteLaws.{pieces-step}
 use Rattle.geokeys.specs.GeoKeys.{first, keyCount, keyOf, entries, entryOf}
 use Rattle.geokeys.specs.Places.{entryIn}
 use Rattle.geokeys.specs.declared.Found.the-variants.{At, Nothing}
-use Rattle.geokeys.proofs.SearchLaws.{first-here, first-later, first-none}
+use Rattle.geokeys.proofs.SearchLaws.{first-here, first-later, first-none, key-at}
 use Rattle.geokeys.proofs.find_entry.Statement.{statement}
 use Rattle.geokeys.proofs.find_entry.Tie as tie
 
@@ -23,24 +23,19 @@ has key e = eqb (keyOf e) key
 
 -- `left` entries from `at` on are still to look at
 record Searching (d : Bytes) (key left at : ℕ) : Type 0 where
-  same : entryOf d key ≡ first (has key) (pieces left 8 (drop at d))
+  same : entryOf (entries d) key ≡ first (has key) (pieces left 8 (drop at d))
   low : at + 8 * left ≤ 600000
 
 begin : (d : Bytes) (key left : ℕ) → left ≡ num (part 6 2 d) → left < 65536 → Searching d key left 8
 unfolding entryOf entries keyCount
 begin d key left e h = record { same = rw e; low = omega arith }
 
--- the key of the entry at a place
-key-at : (d : Bytes) (at : ℕ) → keyOf (part at 8 d) ≡ num (part at 2 d)
-unfolding keyOf
-key-at d at = let e : at + 0 ≡ at = omega arith in ap num (part-part at 8 0 2 d (omega arith) ∙ rw e)
-
 module _ (d : Bytes) (key left at : ℕ) (more : 0 < left) (inv : Searching d key left at) where
   -- the entry at hand, and the others
-  in-two : entryOf d key ≡ first (has key) (part at 8 d ∷ pieces (left - 1) 8 (drop (at + 8) d))
+  in-two : entryOf (entries d) key ≡ first (has key) (part at 8 d ∷ pieces (left - 1) 8 (drop (at + 8) d))
   in-two = inv .same ∙ ap (first (has key)) (pieces-step left 8 at d more)
 
-  found : num (part at 2 d) ≡ key → entryIn d (At at) ≡ entryOf d key
+  found : num (part at 2 d) ≡ key → entryIn d (At at) ≡ entryOf (entries d) key
   unfolding entryIn
   found e = sym (in-two ∙ first-here (has key) (part at 8 d) _ (eq-eqb _ key (key-at d at ∙ e)))
 
@@ -51,7 +46,7 @@ module _ (d : Bytes) (key left at : ℕ) (more : 0 < left) (inv : Searching d ke
         low = omega (arith, inv .low);
       }
 
-ended : (d : Bytes) (key left at : ℕ) → left ≤ 0 → Searching d key left at → entryIn d Nothing ≡ entryOf d key
+ended : (d : Bytes) (key left at : ℕ) → left ≤ 0 → Searching d key left at → entryIn d Nothing ≡ entryOf (entries d) key
 unfolding entryIn pieces
 ended d key zero at h inv = sym (inv .same ∙ first-none (has key))
 ended d key (suc left) at h inv = absurd (omega arith)

@@ -24,7 +24,9 @@ use Rattle.reader.specs.declared.cursor.VlrCursor.{VlrCursor}
 use Rattle.reader.specs.OnePoint.{pointChecks, pointIf, pointAtOf}
 use Rattle.sheet.specs.Sheet.{sheetVerdict}
 use Rattle.sheet.specs.Keeping.{keptUnder}
-use Rattle.geokeys.specs.GeoKeys.{directoryChecks, entryChecks, doubleChecks, textChecks, answerIf, either, doubleIn, textIn, inParameters, fromEntry, fromDirectory, lookup, locationOf, payloadAt, entryOf, projectionPlace}
+use Rattle.geokeys.specs.GeoKeys.{directoryChecks, entryChecks, doubleChecks, textChecks, answerIf, either, doubleIn, textIn, inParameters, fromEntry, locationOf, payloadAt, entryOf, projectionPlace, directoryOf, directoryVerdict, searched, searchVerdict, lookup}
+use Rattle.geokeys.specs.Halving.{halve}
+use Rattle.geokeys.proofs.KeyReadLaws.{found-is}
 use Rattle.geokeys.specs.declared.GeoKey.{GeoKey}
 use Rattle.publicpart.specs.Release.{Outcome, refuseOr, shortOr, accepted, roomOr, release}
 use Rattle.publicpart.specs.declared.Span.{Span}
@@ -32,10 +34,10 @@ use Rattle.publicpart.specs.Cutting.{cuttingLines, listVerdict, listUnder, cutt
 use Rattle.publicpart.proofs.CuttingLaws.{by-list-is}
 use Rattle.editor.specs.Mend.{mendBy, mend}
 use Rattle.capi.specs.Answers.{releasedNumbers, listedNumbers, keptNumbers, mendedNumbers}
-use Rattle.capi.specs.RecordAnswers.{foundRecord, noRecord, recordNumbers, geokeyNumbers}
+use Rattle.capi.specs.RecordAnswers.{foundRecord, noRecord, recordNumbers, geokeyNumbers, readNumbers}
 use Rattle.capi.specs.PointAnswers.{foundPoint, noPoint, pointNumbers, decodedNumbers}
 use Rattle.capi.specs.HeaderAnswers.{foundHeader, noHeader, headerNumbers}
-use Rattle.capi.specs.Interface.{lasCheckFile, lasCheckSheet, lasReadHeader, lasVlrStep, lasPointAt, lasDecode, lasEncode, lasClassKept, lasClassTest, lasRecordKept, lasGeokeyFind, lasRelease, lasCuttingList, lasReleaseByList, lasMend}
+use Rattle.capi.specs.Interface.{lasCheckFile, lasCheckSheet, lasReadHeader, lasVlrStep, lasPointAt, lasDecode, lasEncode, lasClassKept, lasClassTest, lasRecordKept, lasGeokeyFind, lasGeokeyHalve, lasRelease, lasCuttingList, lasReleaseByList, lasMend}
 use Rattle.theorems.specs.ZeroWhereAccepted.{isPassing, hasFields, hasRecord, hasPoint, isDecoded, isFound, isReleased, isListed, isZero, ZeroWhereAccepted}
 use Rattle.theorems.proofs.sheet.TestLaws.{numbers-under}
 use Rattle.theorems.proofs.capi.NumberLaws.{Numbered, first-numbered, then-numbered, file-numbered, mend-numbered, sheet-numbered}
@@ -113,15 +115,17 @@ from-entry s (some entry) =
     answer-if _ _ (first-numbered (entryChecks entry) (refl, (refl, tt)))
     (either-of (eqb (locationOf entry) 0) _ _ refl (in-parameters s entry (projectionPlace s (locationOf entry))))
 
-from-directory : (s : Bytes) (k : ℕ) (at : Option ℕ) → NumberedKey (fromDirectory s k at)
-unfolding fromDirectory NumberedKey geokeyNumbers isFound isZero Without
-from-directory s k none = refl
-from-directory s k (some at) =
-    answer-if _ _ (first-numbered (directoryChecks (payloadAt s at)) (refl, tt)) (from-entry s (entryOf (payloadAt s at) k))
+directory-numbered : (directory : Option Bytes) → Numbered (directoryVerdict directory)
+unfolding directoryVerdict Numbered isZero isPassing numberOf Without
+directory-numbered none = refl
+directory-numbered (some directory) = first-numbered (directoryChecks directory) (refl, tt)
 
-found : (s : Bytes) (k : ℕ) → NumberedKey (lookup s k)
-unfolding lookup
-found s k = answer-if (fileVerdict s) _ (file-numbered s) (from-directory s k (projectionPlace s 34735))
+-- whatever the search that found the entry
+found : (s : Bytes) (entry : Option Bytes) → NumberedKey (answerIf (searchVerdict s) (fromEntry s entry))
+unfolding searchVerdict
+found s entry =
+    answer-if (then (fileVerdict s) (directoryVerdict (directoryOf s))) _ (then-numbered (fileVerdict s) _ (file-numbered s) (directory-numbered (directoryOf s)))
+    (from-entry s entry)
 
 -- ---- a release
 
@@ -184,7 +188,7 @@ mend-by (Fails n) s e = e
 -- ---- all of them
 
 pub zero-where-accepted : ZeroWhereAccepted
-unfolding lasCheckFile lasCheckSheet lasReadHeader lasVlrStep lasPointAt lasDecode lasEncode lasClassKept lasClassTest lasRecordKept lasGeokeyFind lasRelease lasCuttingList lasReleaseByList lasMend cuttingList mend
+unfolding lasCheckFile lasCheckSheet lasReadHeader lasVlrStep lasPointAt lasDecode lasEncode lasClassKept lasClassTest lasRecordKept lasGeokeyFind lasGeokeyHalve readNumbers lookup lasRelease lasCuttingList lasReleaseByList lasMend cuttingList mend
     header.headerRead stepOf pointAtOf points.decoded encoding.encoded points.decodeChecks encoding.encodeChecks Numbered NumberedKey NumberedOutcome Without isZero
 zero-where-accepted =
     record {
@@ -203,7 +207,8 @@ zero-where-accepted =
       class-test =
           λ sheet class. ap isZero (numbers-under (sheetVerdict sheet) _ _ .0) ∙ kept-if (sheetVerdict sheet) _ (sheet-numbered sheet);
       record-kept = λ sheet user id. kept-if (sheetVerdict sheet) _ (sheet-numbered sheet);
-      geokey-find = found;
+      geokey-find = λ file k. found file (entryOf (searched file) k);
+      geokey-halve = λ file k. rw (found-is file k) (found file (halve (searched file) k .entry));
       release = λ file sheet out. release-numbered sheet file out;
       cutting-list =
           λ file sheet list. listed-if (listVerdict sheet file (length list)) (cuttingLines sheet file) list (list-numbered sheet file (length list));
