@@ -24,3 +24,4 @@ pub mod reader
 pub mod capi
 pub mod Instances
 pub mod ListInstances
+pub mod HalvingInstances

@@ -1,1 +1,2 @@
 pub mod LookupTable
+pub mod HalvingTheorems

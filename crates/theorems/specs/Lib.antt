@@ -10,6 +10,7 @@ pub mod BoundsOfKept
 pub mod Sheets
 pub mod Classes
 pub mod ClassTests
+pub mod Halving
 pub mod CuttingList
 pub mod ByList
 pub mod Files
@@ -21,3 +22,4 @@ pub mod ZeroWhereAccepted
 pub mod Samples
 pub mod Instances
 pub mod ListInstances
+pub mod HalvingInstances
