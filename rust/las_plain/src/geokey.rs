@@ -5,15 +5,15 @@ use crate::refusal::Refusal;
 use crate::vlr::{Vlr, Vlrs};
 
 /// The user ID of the three GeoKey records.
-const USER_ID: &[u8] = b"LASF_Projection";
+pub const USER_ID: &[u8] = b"LASF_Projection";
 /// The record ID of the directory.
-const DIRECTORY: u16 = 34735;
+pub const DIRECTORY: u16 = 34735;
 /// The record ID of the doubles, and the location that means them.
-const DOUBLES: u16 = 34736;
+pub const DOUBLES: u16 = 34736;
 /// The record ID of the texts, and the location that means them.
-const TEXTS: u16 = 34737;
+pub const TEXTS: u16 = 34737;
 /// The bytes of the directory's head and of one entry.
-const ENTRY: usize = 8;
+pub const ENTRY: usize = 8;
 
 /// The value of a key.
 #[derive(Debug, Clone, Copy, PartialEq, Eq)]
@@ -28,8 +28,8 @@ pub enum GeoValue {
 
 /// One entry of the directory.
 #[derive(Debug, Clone, Copy)]
-struct Entry {
-    key: u16,
+pub struct Entry {
+    pub key: u16,
     location: u16,
     count: u16,
     value_offset: u16,
@@ -37,26 +37,18 @@ struct Entry {
 
 /// Finds the value of the first entry with this key, or gives 40 to 46.
 pub fn find(vlrs: &Vlrs<'_>, key: u16) -> Result<GeoValue, Refusal> {
-    let directory = projection_record(vlrs, DIRECTORY).ok_or(Refusal::NoDirectory)?;
-    let entry = entries(directory.payload)
-        .ok_or(Refusal::BadDirectory)?
+    entries(vlrs)?
+        .iter()
+        .map(Entry::read)
         .find(|entry| entry.key == key)
-        .ok_or(Refusal::NoSuchKey)?;
-    if !matches!(entry.location, 0 | DOUBLES | TEXTS) {
-        return Err(Refusal::UnknownLocation);
-    }
-    if entry.location != TEXTS && entry.count != 1 {
-        return Err(Refusal::WrongCount);
-    }
-    if entry.location == 0 {
-        return Ok(GeoValue::Short(entry.value_offset));
-    }
-    let parameters = projection_record(vlrs, entry.location).ok_or(Refusal::NoParameters)?;
-    let value = match entry.location {
-        DOUBLES => entry.double_in(&parameters),
-        _ => entry.text_in(&parameters),
-    };
-    value.ok_or(Refusal::ValuePastParameters)
+        .ok_or(Refusal::NoSuchKey)?
+        .value(vlrs)
+}
+
+/// The bytes of each entry of the first directory; 40 if there is none, 41 if it is not sound.
+pub fn entries<'a>(vlrs: &Vlrs<'a>) -> Result<&'a [[u8; ENTRY]], Refusal> {
+    let directory = projection_record(vlrs, DIRECTORY).ok_or(Refusal::NoDirectory)?;
+    entries_of(directory.payload).ok_or(Refusal::BadDirectory)
 }
 
 /// The first GeoKey record with this record ID.
@@ -65,25 +57,42 @@ fn projection_record<'a>(vlrs: &Vlrs<'a>, record_id: u16) -> Option<Vlr<'a>> {
         .find(|vlr| vlr.user_id == USER_ID && vlr.record_id == record_id)
 }
 
-/// The entries of a sound directory.
-fn entries(payload: &[u8]) -> Option<impl Iterator<Item = Entry>> {
-    let (head, rest) = payload.split_at_checked(ENTRY)?;
+/// The entries of a sound directory; bytes after them do not count.
+fn entries_of(payload: &[u8]) -> Option<&[[u8; ENTRY]]> {
+    let (head, rest) = payload.as_chunks().0.split_first()?;
     if [u16_at(head, 0), u16_at(head, 2), u16_at(head, 4)] != [1, 1, 0] {
         return None;
     }
-    let keys = usize::from(u16_at(head, 6));
-    let entries = rest.get(..ENTRY * keys)?;
-    Some(entries.chunks_exact(ENTRY).map(Entry::read))
+    rest.get(..usize::from(u16_at(head, 6)))
 }
 
 impl Entry {
-    fn read(bytes: &[u8]) -> Self {
+    pub fn read(bytes: &[u8; ENTRY]) -> Self {
         Self {
             key: u16_at(bytes, 0),
             location: u16_at(bytes, 2),
             count: u16_at(bytes, 4),
             value_offset: u16_at(bytes, 6),
         }
+    }
+
+    /// The value that the entry holds or points to, or 43 to 46.
+    pub fn value(&self, vlrs: &Vlrs<'_>) -> Result<GeoValue, Refusal> {
+        if !matches!(self.location, 0 | DOUBLES | TEXTS) {
+            return Err(Refusal::UnknownLocation);
+        }
+        if self.location != TEXTS && self.count != 1 {
+            return Err(Refusal::WrongCount);
+        }
+        if self.location == 0 {
+            return Ok(GeoValue::Short(self.value_offset));
+        }
+        let parameters = projection_record(vlrs, self.location).ok_or(Refusal::NoParameters)?;
+        let value = match self.location {
+            DOUBLES => self.double_in(&parameters),
+            _ => self.text_in(&parameters),
+        };
+        value.ok_or(Refusal::ValuePastParameters)
     }
 
     fn double_in(&self, parameters: &Vlr<'_>) -> Option<GeoValue> {
@@ -107,40 +116,15 @@ impl Entry {
 #[cfg(test)]
 mod tests {
     use super::*;
-
-    fn shorts(values: &[u16]) -> Vec<u8> {
-        values
-            .iter()
-            .flat_map(|value| value.to_le_bytes())
-            .collect()
-    }
-
-    fn area(records: &[(u16, Vec<u8>)]) -> Vec<u8> {
-        let mut area = Vec::new();
-        for (record_id, payload) in records {
-            let vlr = Vlr {
-                place: 0,
-                user_id: USER_ID,
-                record_id: *record_id,
-                description: b"",
-                payload,
-            };
-            let start = area.len();
-            area.resize(start + vlr.size(), 0);
-            vlr.write(&mut area[start..]);
-        }
-        area
-    }
+    use crate::sample::{geokey_directory, geokey_records};
 
     fn lookup(records: &[(u16, Vec<u8>)], key: u16) -> Result<GeoValue, Refusal> {
-        find(&Vlrs::new(&area(records), 0, records.len() as u32), key)
+        let area = geokey_records(records);
+        find(&Vlrs::new(&area, 0, records.len() as u32), key)
     }
 
     fn directory(entry: [u16; 4]) -> (u16, Vec<u8>) {
-        (
-            DIRECTORY,
-            shorts(&[&[1, 1, 0, 1], entry.as_slice()].concat()),
-        )
+        geokey_directory(&[entry])
     }
 
     #[test]
@@ -169,7 +153,8 @@ mod tests {
 
     #[test]
     fn names_padded_with_a_space_are_found_and_values_keep_their_spaces() {
-        let mut area = area(&[directory([7, TEXTS, 4, 0]), (TEXTS, b"one     ".to_vec())]);
+        let texts = (TEXTS, b"one     ".to_vec());
+        let mut area = geokey_records(&[directory([7, TEXTS, 4, 0]), texts]);
         let text = GeoValue::Text {
             place: 54 + 16 + 54,
             length: 4,

@@ -9,6 +9,7 @@
 //! * [`class_test()`] looks for the first line of a sheet that holds a class.
 //! * [`release()`] writes what a sheet leaves of a file.
 //! * [`cutting_list()`] lists which parts of a file a release takes; [`release_by_list()`] releases from such a list.
+//! * [`find_by_halving()`] finds a GeoKey by halving its directory, beside [`LasFile::geokey`], and counts its reads.
 //! * [`mend()`] sets right the counts and bounds of a header that lies.
 //! * [`Point`] is one point's fields, with [`decode`] and [`encode`].
 //!
@@ -20,6 +21,7 @@ mod cutting;
 mod file;
 mod format;
 mod geokey;
+mod geokey_halving;
 mod header;
 mod mend;
 mod point;
@@ -40,6 +42,7 @@ pub use cutting::{Line, cutting_list};
 pub use file::{LasFile, check_file, read_header};
 pub use format::PointFormat;
 pub use geokey::GeoValue;
+pub use geokey_halving::{HalvingLookup, find_by_halving};
 pub use header::{Header, ProjectId};
 pub use mend::mend;
 pub use point::{Point, decode, encode};

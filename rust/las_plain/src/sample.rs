@@ -3,6 +3,7 @@
 use crate::bytes::put;
 use crate::cutting::Line;
 use crate::format::PointFormat;
+use crate::geokey;
 use crate::header::{Header, ProjectId};
 use crate::point::{CLASS_PLACE, Point};
 use crate::scaling::{Bounds, Scaling};
@@ -81,6 +82,42 @@ pub const PARTS_LIST: [Line; 5] = [
 /// A line of a cutting list.
 pub const fn line(place: u64, length: u64) -> Line {
     Line { place, length }
+}
+
+/// The file of sample P9 with these GeoKey records in place of its own.
+pub fn geokey_file(records: &[(u16, Vec<u8>)]) -> Vec<u8> {
+    let mut file = p9_file();
+    let area = geokey_records(records);
+    put(&mut file, 96, &(227 + area.len() as u32).to_le_bytes());
+    put(&mut file, 100, &(records.len() as u32).to_le_bytes());
+    file.splice(227..291, area);
+    file
+}
+
+/// GeoKey records with these record IDs and payloads, back to back.
+pub fn geokey_records(records: &[(u16, Vec<u8>)]) -> Vec<u8> {
+    let mut area = Vec::new();
+    for (record_id, payload) in records {
+        let vlr = Vlr {
+            place: 0,
+            user_id: geokey::USER_ID,
+            record_id: *record_id,
+            description: b"",
+            payload,
+        };
+        let start = area.len();
+        area.resize(start + vlr.size(), 0);
+        vlr.write(&mut area[start..]);
+    }
+    area
+}
+
+/// The record ID and payload of a directory with these entries: key, location, count and value offset.
+pub fn geokey_directory(entries: &[[u16; 4]]) -> (u16, Vec<u8>) {
+    let head = [1, 1, 0, entries.len() as u16];
+    let fields = head.iter().chain(entries.as_flattened());
+    let payload = fields.flat_map(|field| field.to_le_bytes()).collect();
+    (geokey::DIRECTORY, payload)
 }
 
 /// A record with description "text" whose reserved field is not 0 and whose texts have a space and junk behind them.
