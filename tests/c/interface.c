@@ -63,6 +63,13 @@ static void structs(void)
     AT(las_geokey, value, 16);
     AT(las_geokey, length, 24);
 
+    HOLDS(sizeof(las_geokey_read) == 40);
+    AT(las_geokey_read, number, 0);
+    AT(las_geokey_read, location, 8);
+    AT(las_geokey_read, value, 16);
+    AT(las_geokey_read, length, 24);
+    AT(las_geokey_read, reads, 32);
+
     HOLDS(sizeof(las_kept) == 16);
     AT(las_kept, number, 0);
     AT(las_kept, kept, 8);
@@ -108,6 +115,7 @@ static void nothing(void)
     las_header header = las_read_header(NULL, 0);
     las_record record = las_vlr_step(NULL, 0, 0, 227);
     las_geokey geokey = las_geokey_find(NULL, 0, 1024);
+    las_geokey_read geokey_read = las_geokey_halve(NULL, 0, 1024);
     las_released released = las_release(NULL, 0, NULL, 0, NULL, 0);
     las_listed listed = las_cutting_list(NULL, 0, NULL, 0, NULL, 0);
     las_released by_list = las_release_by_list(NULL, 0, NULL, 0, NULL, 0, NULL, 0);
@@ -122,6 +130,7 @@ static void nothing(void)
     HOLDS(refusal(&header, sizeof header, 1));
     HOLDS(refusal(&record, sizeof record, 1));
     HOLDS(refusal(&geokey, sizeof geokey, 1));
+    HOLDS(refusal(&geokey_read, sizeof geokey_read, 1));
     HOLDS(refusal(&released, sizeof released, 1));
     HOLDS(refusal(&listed, sizeof listed, 1));
     HOLDS(refusal(&by_list, sizeof by_list, 1));
@@ -186,7 +195,7 @@ static void others(void)
 
     HOLDS(las_coordinate(-1, 0x3FE0000000000000, 0x4024000000000000) == 0x4023000000000000);
     HOLDS(las_coordinate(1, 0xFFF0000000000001, 0) == 0x7FF8000000000000);
-    HOLDS(las_level() == 5);
+    HOLDS(las_level() == 6);
 }
 
 int main(void)

@@ -1,5 +1,5 @@
 #!/usr/bin/env bash
-# Tries the header and the static library as a C caller would: the header as C and as C++, and seven programs over the
+# Tries the header and the static library as a C caller would: the header as C and as C++, and eight programs over the
 # library.
 # Usage: tests/c/run.sh LIBDIR, the folder with libcapi.a; its last line is 'N passed, M failed'.
 set -u
@@ -64,6 +64,7 @@ holds "texts.c" cc -std=c99 "${strict[@]}" -I"$include" "$here/texts.c" "$librar
 holds "flags.c" cc -std=c99 "${strict[@]}" -I"$include" "$here/flags.c" "$library" -o "$scratch/flags"
 holds "class_test.c" cc -std=c99 "${strict[@]}" -I"$include" "$here/class_test.c" "$library" -o "$scratch/class_test"
 holds "lists.c" cc -std=c99 "${strict[@]}" -I"$include" "$here/lists.c" "$library" -o "$scratch/lists"
+holds "halving.c" cc -std=c99 "${strict[@]}" -I"$include" "$here/halving.c" "$library" -o "$scratch/halving"
 # the lines of the README, with what they take for granted around them: a card's scan and its sheet
 {
     printf '%s\n' '#include "korbishaf.h"' '#include <stdio.h>' '#include <stdlib.h>' 'int main(void) {' \
@@ -93,6 +94,7 @@ add "$scratch/texts"
 add "$scratch/flags"
 add "$scratch/class_test"
 add "$scratch/lists"
+add "$scratch/halving"
 
 echo "$passed passed, $failed failed"
 [ "$failed" -eq 0 ]

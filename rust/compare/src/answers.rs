@@ -1,7 +1,8 @@
 //! Answers as plain numbers, in which both sides are compared.
 //!
 //! On a refusal every field but the number is 0, except that a release with
-//! number 30 has the needed length.
+//! number 30 has the needed length, and a lookup by halving with 42 to 46 the
+//! entries read.
 
 /// The answer of a release.
 #[derive(Debug, Clone, Copy, PartialEq, Eq, Default)]
@@ -78,6 +79,28 @@ pub struct GeoKey {
     pub location: u64,
     pub value: u64,
     pub length: u64,
+}
+
+/// The answer of a GeoKey lookup by halving, and how many entries were read.
+#[derive(Debug, Clone, Copy, PartialEq, Eq, Default)]
+pub struct GeoKeyRead {
+    pub number: u64,
+    pub location: u64,
+    pub value: u64,
+    pub length: u64,
+    pub reads: u64,
+}
+
+impl GeoKeyRead {
+    /// The answer without the entries read, as a plain lookup has it.
+    pub fn geokey(self) -> GeoKey {
+        GeoKey {
+            number: self.number,
+            location: self.location,
+            value: self.value,
+            length: self.length,
+        }
+    }
 }
 
 /// The answer to whether a sheet keeps something.

@@ -1,11 +1,12 @@
 //! Both sides called on one case: equal answers, equal bytes, whole guards.
 
 mod lists;
+mod lookups;
 
 use std::collections::{BTreeMap, BTreeSet};
 use std::fmt::Debug;
 
-use crate::answers::{ClassLine, GeoKey, Header, Kept, Mended, Point, Record, Released};
+use crate::answers::{ClassLine, Header, Kept, Mended, Point, Record, Released};
 use crate::lent::Lent;
 use crate::{ours, plain};
 
@@ -23,6 +24,7 @@ pub enum Function {
     ClassTest,
     RecordKept,
     GeoKeyFind,
+    GeoKeyHalve,
     Release,
     Mend,
     CuttingList,
@@ -43,7 +45,7 @@ impl Function {
             Self::CheckSheet | Self::ClassKept | Self::ClassTest | Self::RecordKept => {
                 sheet.collect()
             }
-            Self::GeoKeyFind => file.chain(40..=46).collect(),
+            Self::GeoKeyFind | Self::GeoKeyHalve => file.chain(40..=46).collect(),
             Self::Release => file.chain(sheet).chain([30]).collect(),
             Self::Mend => file.filter(|&number| number != 9).collect(),
             Self::CuttingList => file.chain(sheet).chain([31]).collect(),
@@ -209,19 +211,6 @@ impl Compared {
         let other = plain::record_kept(sheet, user, record_id);
         self.agree(Function::RecordKept, answer.number, answer, other);
         self.untouched(&[&lent, &lent_user]);
-        answer
-    }
-
-    pub fn geokey_find(&mut self, file: &[u8], key: u16) -> GeoKey {
-        let mut lent = Lent::new(file);
-        let answer = ours::geokey_find(&mut lent, key);
-        self.agree(
-            Function::GeoKeyFind,
-            answer.number,
-            answer,
-            plain::geokey_find(file, key),
-        );
-        self.untouched(&[&lent]);
         answer
     }
 

@@ -6,7 +6,9 @@ use korbishaf::sys;
 
 pub use lists::{cutting_list, release_by_list};
 
-use crate::answers::{ClassLine, GeoKey, Header, Kept, Mended, Point, Record, Released};
+use crate::answers::{
+    ClassLine, GeoKey, GeoKeyRead, Header, Kept, Mended, Point, Record, Released,
+};
 use crate::lent::Lent;
 
 // SAFETY, for every call below: each pointer comes with the length of the
@@ -132,6 +134,18 @@ pub fn geokey_find(file: &mut Lent, key: u16) -> GeoKey {
     }
 }
 
+pub fn geokey_halve(file: &mut Lent, key: u16) -> GeoKeyRead {
+    // SAFETY: see above.
+    let answer = unsafe { sys::las_geokey_halve(file.pointer(), file.length(), key) };
+    GeoKeyRead {
+        number: answer.number,
+        location: answer.location,
+        value: answer.value,
+        length: answer.length,
+        reads: answer.reads,
+    }
+}
+
 pub fn release(file: &mut Lent, sheet: &mut Lent, out: &mut Lent) -> Released {
     let (file, file_length) = (file.pointer(), file.length());
     let (sheet, sheet_length) = (sheet.pointer(), sheet.length());
@@ -153,8 +167,8 @@ pub fn mend(file: &mut Lent) -> Mended {
 
 /// The answers for empty slices that come as null pointers: check of the
 /// file, check of the sheet, class test, decode, encode, release, mend,
-/// cutting list, release by a list.
-pub fn on_null_pointers() -> [u64; 9] {
+/// cutting list, release by a list, both GeoKey lookups.
+pub fn on_null_pointers() -> [u64; 11] {
     let null = std::ptr::null();
     let null_mut = std::ptr::null_mut();
     let no_list = std::ptr::null_mut();
@@ -171,6 +185,8 @@ pub fn on_null_pointers() -> [u64; 9] {
             sys::las_mend(null_mut, 0).number,
             sys::las_cutting_list(null, 0, null, 0, no_list, 0).number,
             sys::las_release_by_list(null, 0, null, 0, null_mut, 0, no_list, 0).number,
+            sys::las_geokey_find(null, 0, 1024).number,
+            sys::las_geokey_halve(null, 0, 1024).number,
         ]
     }
 }

@@ -6,7 +6,9 @@ use las_plain::{GeoValue, LasFile, Refusal};
 
 pub use lists::{cutting_list, release_by_list};
 
-use crate::answers::{ClassLine, GeoKey, Header, Kept, Mended, Point, Record, Released};
+use crate::answers::{
+    ClassLine, GeoKey, GeoKeyRead, Header, Kept, Mended, Point, Record, Released,
+};
 
 /// The bits that a coordinate that is not a number has in the interface.
 const NAN_BITS: u64 = 0x7FF8_0000_0000_0000;
@@ -113,18 +115,18 @@ pub fn record_kept(sheet: &[u8], user: &[u8], record_id: u16) -> Kept {
 }
 
 pub fn geokey_find(file: &[u8], key: u16) -> GeoKey {
-    let (number, location, value, length) =
-        match LasFile::open(file).and_then(|file| file.geokey(key)) {
-            Err(refusal) => (refusal.number(), 0, 0, 0),
-            Ok(GeoValue::Short(value)) => (0, 0, value.into(), 0),
-            Ok(GeoValue::Double(bits)) => (0, 34736, bits, 0),
-            Ok(GeoValue::Text { place, length }) => (0, 34737, place as u64, length.into()),
-        };
-    GeoKey {
-        number,
-        location,
-        value,
-        length,
+    geokey_answer(LasFile::open(file).and_then(|file| file.geokey(key)))
+}
+
+pub fn geokey_halve(file: &[u8], key: u16) -> GeoKeyRead {
+    let lookup = las_plain::find_by_halving(file, key);
+    let answer = geokey_answer(lookup.value);
+    GeoKeyRead {
+        number: answer.number,
+        location: answer.location,
+        value: answer.value,
+        length: answer.length,
+        reads: lookup.reads,
     }
 }
 
@@ -165,6 +167,21 @@ fn released_answer(result: Result<las_plain::Released, Refusal>) -> Released {
             },
             ..Released::default()
         },
+    }
+}
+
+fn geokey_answer(result: Result<GeoValue, Refusal>) -> GeoKey {
+    let (number, location, value, length) = match result {
+        Err(refusal) => (refusal.number(), 0, 0, 0),
+        Ok(GeoValue::Short(value)) => (0, 0, value.into(), 0),
+        Ok(GeoValue::Double(bits)) => (0, 34736, bits, 0),
+        Ok(GeoValue::Text { place, length }) => (0, 34737, place as u64, length.into()),
+    };
+    GeoKey {
+        number,
+        location,
+        value,
+        length,
     }
 }
 

@@ -319,6 +319,6 @@ fn random_directories_sound_and_damaged_give_equal_answers() {
             spoil(&mut file, number);
             assert_eq!(compared.geokey_find(&file, KEY), refused(number));
         }
-        compared.assert_all_reached(&[Function::GeoKeyFind]);
+        compared.assert_all_reached(&[Function::GeoKeyFind, Function::GeoKeyHalve]);
     }
 }
