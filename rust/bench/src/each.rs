@@ -5,6 +5,9 @@ use std::time::Duration;
 use crate::table::Table;
 use crate::timing::{per_item, ratio};
 
+/// Stands where an earlier build has no figure.
+const LACKING: &str = "-";
+
 /// Begins a table. An earlier build has columns where there is one.
 pub fn start(before: bool) -> Table {
     Table::start(&heads(before))
@@ -26,6 +29,14 @@ pub fn cells(name: &str, count: usize, times: &[Duration]) -> Vec<String> {
     figures(name, each.chain(ratios))
 }
 
+/// A row of what an earlier build does not have, in a table with columns for one.
+pub fn cells_without_before(name: &str, count: usize, times: &[Duration]) -> Vec<String> {
+    let mut row = cells(name, count, &times[..2]);
+    row.insert(3, LACKING.to_string());
+    row.push(LACKING.to_string());
+    row
+}
+
 /// A row of these figures.
 pub fn figures(name: &str, figures: impl IntoIterator<Item = f64>) -> Vec<String> {
     let figures = figures.into_iter().map(|figure| format!("{figure:.2}"));
@@ -45,5 +56,8 @@ mod tests {
         let both = cells("name", 2, &times);
         assert_eq!(both.len(), heads(true).len());
         assert_eq!(both[3..], ["2.50", "0.50", "0.80"]);
+        let lacking = cells_without_before("name", 2, &times[..2]);
+        assert_eq!(lacking.len(), heads(true).len());
+        assert_eq!(lacking, ["name", "4.00", "2.00", "-", "0.50", "-"]);
     }
 }

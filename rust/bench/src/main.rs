@@ -11,6 +11,7 @@ mod calls;
 mod cases;
 mod class_tests;
 mod each;
+mod geokey_lookups;
 mod growth;
 mod library;
 mod lists;
@@ -73,6 +74,8 @@ fn compare(builds: &Builds) {
     calls::compare(builds);
     println!();
     class_tests::compare(builds);
+    println!();
+    geokey_lookups::compare(builds);
     println!();
     lists::compare(builds);
 }

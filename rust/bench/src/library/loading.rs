@@ -5,7 +5,10 @@ use std::mem::transmute;
 use std::path::Path;
 
 use super::lister::{CuttingList, Lister, ReleaseByList};
-use super::{CheckFile, ClassTest, Decode, Encode, Library, Mend, Mender, Release, Tester};
+use super::{
+    CheckFile, ClassTest, Decode, Encode, GeoKeyFind, GeoKeyHalve, Halver, Library, Mend, Mender,
+    Release, Tester,
+};
 
 unsafe extern "C" {
     fn dlopen(path: *const c_char, mode: c_int) -> *mut c_void;
@@ -24,6 +27,7 @@ impl Library {
         let class_test = find(c"las_class_test").ok();
         let lists =
             find(c"las_cutting_list").and_then(|list| Ok((list, find(c"las_release_by_list")?)));
+        let halve = find(c"las_geokey_halve").ok();
         // SAFETY: the header of every build declares functions of these names with these types, if it has them.
         unsafe {
             Ok(Self {
@@ -31,12 +35,14 @@ impl Library {
                 check_file: transmute::<*mut c_void, CheckFile>(find(c"las_check_file")?),
                 decode: transmute::<*mut c_void, Decode>(find(c"las_decode")?),
                 encode: transmute::<*mut c_void, Encode>(find(c"las_encode")?),
+                geokey_find: transmute::<*mut c_void, GeoKeyFind>(find(c"las_geokey_find")?),
                 mender: mend.map(|mend| Mender(transmute::<*mut c_void, Mend>(mend))),
                 tester: class_test.map(|test| Tester(transmute::<*mut c_void, ClassTest>(test))),
                 lister: lists.ok().map(|(list, release)| Lister {
                     cutting_list: transmute::<*mut c_void, CuttingList>(list),
                     release_by_list: transmute::<*mut c_void, ReleaseByList>(release),
                 }),
+                halver: halve.map(|halve| Halver(transmute::<*mut c_void, GeoKeyHalve>(halve))),
             })
         }
     }
