@@ -1,6 +1,7 @@
 //! The commands.
 
 mod explain;
+mod geokey;
 mod help;
 mod list;
 mod mend;
@@ -20,11 +21,12 @@ use crate::shown;
 use std::ffi::OsString;
 
 /// All commands, in the order in which the help has them.
-const COMMANDS: [&Command; 9] = [
+const COMMANDS: [&Command; 10] = [
     &release::COMMAND,
     &report::COMMAND,
     &list::COMMAND,
     &show::COMMAND,
+    &geokey::COMMAND,
     &mend::COMMAND,
     &sheet::COMMAND,
     &verify::COMMAND,

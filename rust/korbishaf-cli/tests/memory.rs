@@ -1,5 +1,5 @@
 //! How much memory the command takes: `release` and `verify` the file, the released file and at most 16 MiB, `list` the
-//! file, the list and at most 16 MiB, `show`, `report` and `mend` the file and at most 16 MiB.
+//! file, the list and at most 16 MiB, `show`, `geokey`, `report` and `mend` the file and at most 16 MiB.
 //!
 //! A list takes 16 bytes for each line that it has room for. Those are as many as the file has records and points, or
 //! fewer where the released file has no room for so many: a record takes at least 54 bytes of it and a point its whole
@@ -310,6 +310,23 @@ fn many_records_are_looked_at_in_little_memory() {
     takes_little_beside(with_file(&file));
 }
 
+/// The file is looked up in where it was read to.
+#[test]
+fn one_key_is_looked_up_in_little_memory() {
+    let (scratch, both) = folder(1);
+    for (bytes, status, said) in [
+        (
+            both / 2 + (16 << 20),
+            1,
+            "refused 40: there is no GeoKey directory",
+        ),
+        (both / 2 - 1, 3, "it does not fit into memory"),
+    ] {
+        let ran = look_within(&scratch, bytes, "geokey in.las 1024");
+        assert_eq!(ran, (Some(status), format!("in.las: {said}\n")));
+    }
+}
+
 /// Only the first of them counts.
 #[test]
 fn many_directories_are_looked_at_in_little_memory() {
@@ -329,11 +346,16 @@ fn many_keys_of_one_text_are_looked_at_in_little_memory() {
         projection(34737, vec![0xFC; 65535]),
     ];
     let (scratch, length) = with_file(&file.bytes());
-    for words in LOOKS {
+    let one_key = ["geokey in.las 8190", "geokey --json in.las 1"];
+    for words in LOOKS.into_iter().chain(one_key) {
         let ran = look_within(&scratch, length + (16 << 20), words);
         assert_eq!(ran, (Some(0), String::new()), "{words}");
     }
-    for words in ["show in.las", "report --json in.las sheet.txt"] {
+    for words in [
+        "show in.las",
+        "report --json in.las sheet.txt",
+        "geokey in.las 8190",
+    ] {
         let short = "in.las: no memory is left beside it\n".to_string();
         let mut too_little = 0;
         for mebibytes in 4..16 {

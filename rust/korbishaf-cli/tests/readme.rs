@@ -40,7 +40,7 @@ fn the_readme_shows_what_is_printed() {
     symlink(root().join("cards"), scratch.path("cards")).unwrap();
     let blocks = readme.split("```console\n").skip(1);
     let shown: Vec<_> = blocks.flat_map(|block| commands(block, "```")).collect();
-    assert_eq!(shown.len(), 10);
+    assert_eq!(shown.len(), 11);
     // tests/install.sh tries the first
     assert!(shown[0].0.starts_with("./install "));
     for (command, output) in &shown[1..] {
@@ -56,7 +56,7 @@ fn the_readme_shows_what_is_printed() {
     assert_eq!(scratch.read("sample.las"), expected);
 }
 
-/// The page shows the output of some commands only, and its scan is that of a card.
+/// The page shows the output of some commands only, and its scans are those of the cards.
 #[test]
 fn the_manual_page_has_commands_that_work() {
     let page = fs::read_to_string(root().join("rust/korbishaf-cli/korbishaf.1")).unwrap();
@@ -73,9 +73,12 @@ fn the_manual_page_has_commands_that_work() {
         .unwrap();
     let blocks = examples.split(".nf\n").skip(1);
     let shown: Vec<_> = blocks.flat_map(|block| commands(block, ".fi")).collect();
-    assert_eq!(shown.len(), 9);
+    assert_eq!(shown.len(), 10);
     let scratch = Scratch::new();
-    fs::copy(root().join("cards/yard/in.las"), scratch.path("scan.las")).unwrap();
+    for (card, scan) in [("yard", "scan.las"), ("survey", "survey.las")] {
+        let from = root().join("cards").join(card).join("in.las");
+        fs::copy(from, scratch.path(scan)).unwrap();
+    }
     for (command, output) in shown {
         let ran = shell(&scratch, &command);
         assert_eq!(ran.status, Some(0), "{command}: {}", ran.out);

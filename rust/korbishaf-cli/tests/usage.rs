@@ -31,7 +31,7 @@ fn commands() -> Vec<String> {
 #[test]
 fn the_help_lists_every_command() {
     let all = [
-        "release", "report", "list", "show", "mend", "sheet", "verify", "explain", "help",
+        "release", "report", "list", "show", "geokey", "mend", "sheet", "verify", "explain", "help",
     ];
     assert_eq!(commands(), all);
     for words in ["help", "--help", "-h"] {
@@ -100,6 +100,9 @@ fn words_that_are_missing_or_too_many_are_wrong_usage() {
         "list a b c",
         "show",
         "show a b",
+        "geokey",
+        "geokey a",
+        "geokey a 1024 2048",
         "mend",
         "mend a",
         "mend a b c",
@@ -124,7 +127,7 @@ fn words_that_are_missing_or_too_many_are_wrong_usage() {
         );
     }
     let ran = says("relaese a b c");
-    let all = "release, report, list, show, mend, sheet, verify, explain, help";
+    let all = "release, report, list, show, geokey, mend, sheet, verify, explain, help";
     let words = format!("korbishaf: unknown command 'relaese'; the commands are {all}\n");
     assert_eq!(ran, Ran::new(2, "", &words));
     assert_eq!(says("help relaese"), Ran::new(2, "", &words));
@@ -132,7 +135,7 @@ fn words_that_are_missing_or_too_many_are_wrong_usage() {
 
 #[test]
 fn the_version() {
-    let version = concat!("korbishaf ", env!("CARGO_PKG_VERSION"), " (level 5)\n");
+    let version = concat!("korbishaf ", env!("CARGO_PKG_VERSION"), " (level 6)\n");
     assert_eq!(says("--version"), Ran::new(0, version, ""));
     assert_eq!(says("-V"), Ran::new(0, version, ""));
     for option in ["--version", "--help"] {
@@ -180,6 +183,7 @@ fn every_number_is_explained() {
                       records and points.\n";
     assert_eq!(says("explain 31").out, thirty_one);
     assert!(says("explain 9").out.contains("'korbishaf mend'"));
+    assert!(says("explain 42").out.contains("'korbishaf show'"));
 }
 
 #[test]
@@ -205,13 +209,15 @@ fn what_is_no_number_is_not_explained() {
 }
 
 /// What prints, in each command.
-const PRINTING: [&str; 14] = [
+const PRINTING: [&str; 16] = [
     "help",
     "--version",
     "explain",
     "explain 7",
     "show in.las",
     "show --json in.las",
+    "geokey survey.las 1024",
+    "geokey --json survey.las 1024",
     "sheet sheet.bin",
     "sheet --class 2 sheet.bin",
     "report in.las sheet.bin",
@@ -235,6 +241,7 @@ fn by_shell(scratch: &Scratch, before: &str, words: &str, behind: &str) -> Ran {
 #[test]
 fn what_is_not_printed_is_said() {
     let scratch = Scratch::with_card("yard");
+    scratch.write("survey.las", Scratch::with_card("survey").read("in.las"));
     for words in PRINTING {
         let full = std::fs::File::create("/dev/full").unwrap();
         let ran = Ran::of(

@@ -1,6 +1,7 @@
 //! Korbishaf for Rust: readers of LAS 1.2 files (point formats 0 to 3), and releases of what a keep sheet keeps
 //! of them. [`cutting_list`] says which parts of a file a release takes, for whoever has the file. [`mend`] sets a
-//! header right that lies about its points: their number, points by return and bounds.
+//! header right that lies about its points: their number, points by return and bounds. [`geokey`] looks up one of the
+//! keys that say where on Earth a scan is, and [`geokey_by_halving`] does so in a long directory of rising keys.
 //!
 //! The functions here are thin, safe wrappers of those in Korbishaf's static library, which is proved to do what its
 //! definitions say. Any bytes may be passed. What can't be answered is refused with an [`Error`], which has a
@@ -93,7 +94,7 @@ mod text_field;
 
 pub use cutting_list::{CuttingLine, cutting_list, cutting_list_into, most_lines, release_by_list};
 pub use error::{Error, ErrorKind, refusal_words};
-pub use geokeys::{GeoKeyValue, geokey};
+pub use geokeys::{GeoKeyRead, GeoKeyValue, geokey, geokey_by_halving};
 pub use header::{Guid, Header, check_file, read_header};
 pub use mend::{Mended, mend};
 pub use points::{PlacedPoint, Point, Points, coordinate, decode, encode, point_at, points};
@@ -108,7 +109,7 @@ use text_field::cut;
 
 /// The number of the last change request that is in the library: 0 for the base, 1 with [`mend`], 2 where texts are cut
 /// before the spaces at their end, 3 where a class has no [flags](crate#classes-and-flags) in it, 4 with
-/// [`class_test`], 5 with [`cutting_list`] and [`release_by_list`].
+/// [`class_test`], 5 with [`cutting_list`] and [`release_by_list`], 6 with [`geokey_by_halving`].
 #[must_use]
 pub fn level() -> u64 {
     sys::las_level()

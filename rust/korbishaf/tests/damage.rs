@@ -125,6 +125,17 @@ fn try_mend(file: &[u8], sheet: &[u8], of_file: u64) {
     assert!(mended == again);
 }
 
+/// What holds of a lookup by halving in any file that passes, for which the plain lookup has this number. No directory
+/// has more than three keys here.
+fn try_halving(file: &[u8], key: u16, plain: u64) {
+    let halved = korbishaf::geokey_by_halving(file, key);
+    match number(&halved.value) {
+        found @ (40 | 41) => assert_eq!((plain, halved.reads), (found, 0)),
+        42 => assert!(!(40..=41).contains(&plain) && halved.reads <= 2),
+        _ => assert!(!(40..=42).contains(&plain) && (1..=2).contains(&halved.reads)),
+    }
+}
+
 /// What holds of any file and any sheet. Returns the numbers of the two checks.
 fn try_all(file: &[u8], sheet: &[u8]) -> (u64, u64) {
     let of_file = number(&korbishaf::check_file(file));
@@ -158,6 +169,8 @@ fn try_all(file: &[u8], sheet: &[u8]) -> (u64, u64) {
         assert_eq!(number(&korbishaf::points(file)), of_file);
         assert_eq!(number(&korbishaf::point_at(file, 0)), of_file);
         assert_eq!(number(&korbishaf::geokey(file, 1024)), of_file);
+        let halved = korbishaf::geokey_by_halving(file, 1024);
+        assert_eq!((number(&halved.value), halved.reads), (of_file, 0));
         return (of_file, of_sheet);
     };
 
@@ -198,6 +211,7 @@ fn try_all(file: &[u8], sheet: &[u8]) -> (u64, u64) {
     for key in [0, 1024, 1026, 2048, 2049, 2057, 3072, 3073, 65535] {
         let found = number(&korbishaf::geokey(file, key));
         assert!(found == 0 || (40..=46).contains(&found), "{found}");
+        try_halving(file, key, found);
     }
     (of_file, of_sheet)
 }

@@ -107,7 +107,7 @@ fn number<T: std::fmt::Debug>(answer: Result<T, korbishaf::Error>) -> u64 {
 
 #[test]
 fn level() {
-    assert_eq!(korbishaf::level(), 5);
+    assert_eq!(korbishaf::level(), 6);
 }
 
 #[test]
@@ -119,6 +119,7 @@ fn files_p1_p2() {
         assert_eq!(number(korbishaf::points(file)), 1);
         assert_eq!(number(korbishaf::point_at(file, 0)), 1);
         assert_eq!(number(korbishaf::geokey(file, 1024)), 1);
+        assert_eq!(number(korbishaf::geokey_by_halving(file, 1024).value), 1);
         assert_eq!(number(korbishaf::release_to_vec(file, &Sheet::new())), 1);
         assert_eq!(number(bytes::release_to_vec(file, &[])), 1);
         assert_eq!(number(korbishaf::cutting_list(file, &Sheet::new())), 1);

@@ -105,7 +105,10 @@ const ADVICE: [(u64, &str); 30] = [
         "The file does not say where on Earth it is, or the record with that was not kept.",
     ),
     (41, "The record LASF_Projection 34735 is damaged."),
-    (42, "The file's GeoKey directory has other keys."),
+    (
+        42,
+        "The file's GeoKey directory has other keys: 'korbishaf show' lists them.",
+    ),
     (
         43,
         "The GeoKey directory is damaged, or of a kind that LAS 1.2 does not have.",

@@ -1,11 +1,12 @@
-//! Reports, lists and what `show` prints, of many thousands of damaged files and sheets.
+//! Reports, lists, keys and what `show` prints, of many thousands of damaged files and sheets.
 
 #[path = "../../tests/common/json.rs"]
 mod json;
 
+use super::geokey::lookup::Lookup;
 use super::list::parts::Cutting;
 use super::report::plan::Plan;
-use super::{list, report, show};
+use super::{geokey, list, report, show};
 use crate::facts::Facts;
 use crate::keep_sheet::KeepSheet;
 use crate::progress::Progress;
@@ -57,14 +58,17 @@ fn number_of<T>(
         write(&mut out, &made, as_json).expect("a vector takes all that is written to it");
         String::from_utf8(out).expect("UTF-8")
     });
-    assert!(
-        text.bytes()
-            .all(|byte| byte == b'\n' || (b' '..=b'~').contains(&byte)),
-        "{text}"
-    );
-    assert!(!text.lines().any(|line| line.ends_with(' ')), "{text}");
+    assert_is_plain(&text);
     assert!(json.is_ascii() && json::read(&json).is_some(), "{json}");
     0
+}
+
+/// Asserts that a text is printable ASCII, and has no blanks at the end of a line.
+fn assert_is_plain(text: &str) {
+    let mut bytes = text.bytes();
+    let is_plain = bytes.all(|byte| byte == b'\n' || (b' '..=b'~').contains(&byte));
+    assert!(is_plain, "{text}");
+    assert!(!text.lines().any(|line| line.ends_with(' ')), "{text}");
 }
 
 #[test]
@@ -85,6 +89,7 @@ fn try_files(seed: u64) {
         let (found, wanted) = (number_shown(&file), korbishaf::check_file(&file));
         assert_eq!(found, number(wanted), "file {index} of seed {seed}");
         shown += usize::from(found == 0);
+        try_keys(&file);
 
         let (file, sheet) = (random_file(&mut rng), random_sheet(&mut rng));
         let released = korbishaf::bytes::release_to_vec(&file, &sheet);
@@ -100,6 +105,14 @@ fn try_files(seed: u64) {
     assert!((FILES / 6..shown).contains(&reported), "{reported}");
 }
 
+/// The keys that random directories have, and one that they do not have.
+fn try_keys(file: &[u8]) {
+    for key in 1024..=1031 {
+        let wanted = number(korbishaf::geokey(file, key).map(|_| ()));
+        assert_eq!(number_of_key(file, key), wanted);
+    }
+}
+
 /// The number of a refusal, 0 where there is none.
 fn number(answer: Result<(), Error>) -> u64 {
     answer.map_or_else(|refused| refused.number(), |()| 0)
@@ -109,6 +122,22 @@ fn number_shown(file: &[u8]) -> u64 {
     let facts = Facts::of(file, &Progress::none());
     number_of(facts, |out, facts, json| {
         show::write(out, "in.las", facts, json)
+    })
+}
+
+/// What is said of a key that is refused is looked at too.
+fn number_of_key(file: &[u8], key: u16) -> u64 {
+    let lookup = Lookup::of(file, key);
+    let found = lookup.and_then(|lookup| {
+        if let Err(refused) = lookup.plain {
+            assert_is_plain(&geokey::said("in.las", &lookup, false).unwrap_err());
+            return Err(refused);
+        }
+        Ok(lookup)
+    });
+    number_of(found, |out, lookup, json| {
+        let said = geokey::said("in.las", lookup, json).expect("a key that is found");
+        out.write_all(said.as_bytes())
     })
 }
 

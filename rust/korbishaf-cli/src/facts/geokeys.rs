@@ -1,6 +1,6 @@
 //! The keys of a file's GeoKey directory.
 
-pub use super::key_names::{meaning, name};
+pub use super::key_names::{key_named, meaning, name, name_with};
 
 use super::projection;
 use super::records::DIRECTORY;
@@ -89,6 +89,12 @@ impl GeoKeys {
             .find(|key| key.location == location)
             .map(|key| key.key)
     }
+}
+
+/// The number of entries of a file's directory, which is one that passes.
+pub fn entry_count(records: Records<'_>) -> usize {
+    let directory = projection::first(records, DIRECTORY);
+    directory.map_or(0, |record| entries(record.payload).count())
 }
 
 /// The entries of a directory's payload: key, location, count, value offset. Those behind the stated number are none.

@@ -105,35 +105,50 @@ pub fn geokeys<'a>(facts: &'a Facts<'_>) -> LazyJson<'a> {
 }
 
 fn key(entry: &GeoKey) -> Json {
-    let read = entry.value.as_ref().and_then(|value| value.as_ref().ok());
-    let (kind, value) = match read {
+    let found = entry.value.as_ref();
+    let value = found.and_then(|found| found.as_ref().ok());
+    let refused = found.and_then(|found| found.as_ref().err());
+    let mut members = Vec::from(key_named(entry.key));
+    members.extend(value_of(entry.key, value));
+    members.push(("refusal", refusal(refused)));
+    members.push(("repeated", Json::Bool(found.is_none())));
+    Json::Object(members)
+}
+
+/// A key and its name, as members of an object.
+pub fn key_named(key: u16) -> [(&'static str, Json); 2] {
+    [
+        ("key", Json::number(key)),
+        ("name", optional(geokeys::name(key))),
+    ]
+}
+
+/// The value of a key, as members of an object, which are all null where there is none.
+pub fn value_of(key: u16, value: Option<&Value>) -> [(&'static str, Json); 4] {
+    let (kind, shown) = match value {
         Some(Value::Short(short)) => (Some("short"), Json::number(*short)),
         Some(Value::Double(double)) => (Some("double"), Json::Double(*double)),
         Some(Value::Text(shown, _)) => (Some("text"), Json::text(shown::text(shown))),
         None => (None, Json::Null),
     };
-    let meaning = match read {
-        Some(Value::Short(short)) => geokeys::meaning(entry.key, *short),
+    let meaning = match value {
+        Some(Value::Short(short)) => geokeys::meaning(key, *short),
         _ => None,
     };
-    let text_length = match read {
+    let text_length = match value {
         Some(Value::Text(_, length)) => Json::count(*length),
         _ => Json::Null,
     };
-    let refused = entry.value.as_ref().and_then(|value| value.as_ref().err());
-    Json::Object(vec![
-        ("key", Json::number(entry.key)),
-        ("name", optional(geokeys::name(entry.key))),
+    [
         ("kind", optional(kind)),
-        ("value", value),
+        ("value", shown),
         ("meaning", optional(meaning)),
         ("text_length", text_length),
-        ("refusal", refusal(refused)),
-        ("repeated", Json::Bool(entry.value.is_none())),
-    ])
+    ]
 }
 
-fn refusal(refused: Option<&Error>) -> Json {
+/// A refusal, or nothing.
+pub fn refusal(refused: Option<&Error>) -> Json {
     refused.map_or(Json::Null, |refused| {
         Json::Object(vec![
             ("number", Json::number(refused.number())),

@@ -6,6 +6,22 @@ pub fn name(key: u16) -> Option<&'static str> {
     NAMES.get(place).map(|&(_, name)| name)
 }
 
+/// The key of a name, in any case.
+pub fn key_named(word: &str) -> Option<u16> {
+    let found = NAMES
+        .iter()
+        .find(|(_, name)| name.eq_ignore_ascii_case(word));
+    found.map(|&(key, _)| key)
+}
+
+/// The one name that has these letters somewhere, in any case; none where several have them.
+pub fn name_with(letters: &str) -> Option<&'static str> {
+    let letters = letters.to_ascii_lowercase();
+    let names = NAMES.iter().map(|&(_, name)| name);
+    let mut found = names.filter(|name| name.to_ascii_lowercase().contains(&letters));
+    found.next().filter(|_| found.next().is_none())
+}
+
 /// What a key's short means, where that is a short list.
 pub fn meaning(key: u16, value: u16) -> Option<&'static str> {
     let values = match key {
@@ -113,6 +129,29 @@ mod tests {
         }
         for key in [0, 1023, 1027, 2062, 4100, 65535] {
             assert_eq!(name(key), None, "{key}");
+        }
+    }
+
+    #[test]
+    fn keys_are_found_by_their_names() {
+        for (key, name) in NAMES {
+            assert_eq!(key_named(name), Some(key));
+            assert_eq!(key_named(&name.to_uppercase()), Some(key));
+        }
+        for word in ["", "GTModelType", "GTModelTypeGeoKey ", "1024"] {
+            assert_eq!(key_named(word), None, "{word}");
+        }
+    }
+
+    #[test]
+    fn a_part_of_one_name_stands_for_it() {
+        assert_eq!(name_with("gtmodeltype"), Some("GTModelTypeGeoKey"));
+        assert_eq!(
+            name_with("VerticalDatumGeoKey"),
+            Some("VerticalDatumGeoKey")
+        );
+        for letters in ["", "Citation", "GTModelTypes", "1024"] {
+            assert_eq!(name_with(letters), None, "{letters}");
         }
     }
 

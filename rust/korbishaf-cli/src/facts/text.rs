@@ -8,7 +8,7 @@ use super::stated::{Bound, Compared};
 use super::{Facts, class, records};
 use crate::shown::{self, counted};
 use crate::table::{Side, Table};
-use korbishaf::Record;
+use korbishaf::{Error, Record};
 use std::fmt::Display;
 
 /// The fields of a header.
@@ -132,26 +132,38 @@ pub fn geokeys(facts: &Facts<'_>) -> impl Display {
         None => "the GeoKey directory has no keys".into(),
     };
     let rows = facts.geokeys.keys.iter().map(|entry| {
-        let name = geokeys::name(entry.key).unwrap_or("unknown key");
-        [entry.key.to_string(), name.to_string(), value(entry)]
+        let name = key_name(entry.key).to_string();
+        [entry.key.to_string(), name, value(entry)]
     });
     Table::new(&[Side::Right], rows).or(why_none)
 }
 
-/// The value of a key, or why there is none.
+/// The name of a key.
+pub fn key_name(key: u16) -> &'static str {
+    geokeys::name(key).unwrap_or("unknown key")
+}
+
+/// The value of an entry, or why there is none.
 fn value(entry: &GeoKey) -> String {
     match &entry.value {
-        Some(Ok(Value::Short(short))) => match geokeys::meaning(entry.key, *short) {
+        Some(found) => found_for(entry.key, found),
+        None => "not looked at, since the key's first entry counts".into(),
+    }
+}
+
+/// What was found for a key: its value, or why there is none.
+pub fn found_for(key: u16, found: &Result<Value, Error>) -> String {
+    match found {
+        Ok(Value::Short(short)) => match geokeys::meaning(key, *short) {
             Some(meaning) => format!("{short} ({meaning})"),
             None => short.to_string(),
         },
-        Some(Ok(Value::Double(double))) => format!("{double:?}"),
-        Some(Ok(Value::Text(shown, length))) if shown.len() < *length => {
+        Ok(Value::Double(double)) => format!("{double:?}"),
+        Ok(Value::Text(shown, length)) if shown.len() < *length => {
             let shown = shown::text(shown);
             format!("\"{shown}\" and more, {length} bytes in all")
         }
-        Some(Ok(Value::Text(shown, _))) => format!("\"{}\"", shown::text(shown)),
-        Some(Err(refused)) => refused.to_string(),
-        None => "not looked at, since the key's first entry counts".into(),
+        Ok(Value::Text(shown, _)) => format!("\"{}\"", shown::text(shown)),
+        Err(refused) => refused.to_string(),
     }
 }
