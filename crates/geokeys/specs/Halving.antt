@@ -1,5 +1,5 @@
--- GeoKey lookups by halving: the same lookup, but that the entry is searched for by halving those that are left. It also
--- gives the number of entries read.
+-- GeoKey lookups by halving: the same lookup, but that the entry is searched for by halving those that are left. It
+-- also gives the number of entries read.
 -- Assumes nothing.
 use Prim.Native.Nat.{ℕ, zero, suc, _+_, _/_}
 use mathlib.Core.Bool.{Bool, true, false}

@@ -2,8 +2,10 @@
 -- Assumes nothing.
 use mathlib.Core.Path.{_≡_}
 use Prim.Native.Nat.{ℕ, _<_, _^_}
+use mathlib.Core.List.{List}
 use mathlib.Core.Option.{Option, none, some}
-use Rattle.fields.specs.Bytes.{Bytes, part}
+use lib.ListN.{drop}
+use Rattle.fields.specs.Bytes.{Bytes, part, pieces}
 use Rattle.fields.specs.declared.Verdict.{Verdict}
 use Rattle.fields.specs.declared.Verdict.the-variants.{Passes, Fails}
 use Rattle.geokeys.specs.GeoKeys.{payloadAt, directoryOf, searchVerdict}
@@ -22,6 +24,10 @@ placeIn Nothing = none
 unfoldable pub entryIn : Bytes → Found → Option Bytes
 entryIn directory (At at) = some (part at 8 directory)
 entryIn directory Nothing = none
+
+-- as many entries of a directory from a place on
+abbrev pub entriesFrom : Bytes → ℕ → ℕ → List Bytes
+entriesFrom directory at n = pieces n 8 (drop at directory)
 
 -- the entry at the place, and the reads
 unfoldable pub halvedIn : Bytes → Search → Halved

@@ -1,13 +1,11 @@
 // GeoKey lookups by halving: the search calls itself on one half of the entries that are left.
 ghost use mathlib.Core.Path.{_≡_};
 ghost use Prim.Native.Nat.{_+_, _*_, _≤_, _<_, _^_};
-ghost use lib.ListN.{drop};
-ghost use Rattle.fields.specs.Bytes.{pieces};
 ghost use Rattle.fields.specs.declared.Verdict.the-variants.{Passes};
 ghost use Rattle.lasfile.specs.FileChecks.{fileVerdict};
 ghost use Rattle.geokeys.specs.GeoKeys.{entries};
 ghost use Rattle.geokeys.specs.Halving.{halve, keyRead, lookupByHalving};
-ghost use Rattle.geokeys.specs.Places.{halvedIn};
+ghost use Rattle.geokeys.specs.Places.{entriesFrom, halvedIn};
 use crate::DirectoryAt;
 use crate::ENTRY;
 use crate::Found;
@@ -41,11 +39,11 @@ fn one_more(rest: Search) -> Search
     }
 }
 
-// Searches the `left` entries from `at` on. They fall by more than half with each call, so that it calls itself at most
-// as often as their number has bits.
+// Searches the `left` entries from `at` on. At least half of them fall away with each call, so that it calls itself at
+// most as often as their number has bits.
 fn halve(directory: &[u8], at: usize, left: usize, key: u16) -> Search
     requires { ⌜ at + 8 * left < 2 ^ 32 ⌝ }
-    ensures { λ r. ⌜ halvedIn (now (directory .entry)) r ≡ halve (pieces left 8 (drop at (now (directory .entry)))) key ⌝ }
+    ensures { λ r. ⌜ halvedIn (now (directory .entry)) r ≡ halve (entriesFrom (now (directory .entry)) at left) key ⌝ }
 {
     if left == 0 {
         return Search {

@@ -35,7 +35,7 @@ enough sheet file = keptTogether (publicOf sheet file)
 unfoldable pub refusal : ℕ → ℕ → «las_released»
 refusal n m = record { number = n; length = cond (eqb n 30) m 0; points = 0; records = 0 }
 
--- what a lookup by halving answers where it is refused with the number n: from 42 on it has the m entries read beside it
+-- what a lookup by halving answers where it is refused with the number n: 42 to 46 have the m entries read beside them
 unfoldable pub keyRefusal : ℕ → ℕ → «las_geokey_read»
 keyRefusal n m = record { number = n; location = 0; value = 0; length = 0; reads = cond (leb 42 n) m 0 }
 

@@ -1,5 +1,5 @@
-//! GeoKeys looked up by halving (E6), and the entries read for them. What is due follows from the keys of a directory by
-//! the words of the request, or is written down, so that both sides cannot share a misreading.
+//! GeoKeys looked up by halving (E6), and the entries read for them. What is due follows from the keys of a directory
+//! by the words of the request, or is written down, so that both sides cannot share a misreading.
 
 mod halving {
     mod any_entries;

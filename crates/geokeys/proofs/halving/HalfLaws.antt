@@ -11,15 +11,12 @@ use Rattle.fields.specs.Bytes.{Bytes, part, num, pieces}
 use Rattle.fields.proofs.ByteLaws.{length-pieces, pieces-at, pieces-split, part-drop}
 use Rattle.geokeys.specs.GeoKeys.{keyOf}
 use Rattle.geokeys.specs.Halving.{middle, before, after, Halved, oneMore, halve}
-use Rattle.geokeys.specs.Places.{entryIn, halvedIn}
+use Rattle.geokeys.specs.Places.{entryIn, entriesFrom, halvedIn}
 use Rattle.geokeys.specs.declared.Found.{Found}
 use Rattle.geokeys.specs.declared.Found.the-variants.{At, Nothing}
 use Rattle.geokeys.specs.declared.halving.Search.{Search}
 use Rattle.geokeys.proofs.SearchLaws.{key-at}
 use Rattle.geokeys.proofs.HalvingLaws.{halve-none, halve-equal, halve-larger, halve-smaller, few-reads}
-
-abbrev pub entriesFrom : Bytes → ℕ → ℕ → List Bytes
-entriesFrom d at left = pieces left 8 (drop at d)
 
 abbrev search : Found → ℕ → Search
 search found reads = record { found = found; reads = reads }
