@@ -66,7 +66,7 @@
  *   40  no record "LASF_Projection" 34735, the key directory
  *   41  the key directory is under 8 bytes, does not begin 1, 1, 0, or is shorter
  *       than its keys
- *   42  the key is not in the directory
+ *   42  the key is not found in the directory
  *   43  the key's location is not 0, 34736 or 34737
  *   44  a value at location 0 or 34736 has a count other than 1
  *   45  the parameter record that the location names is absent
@@ -157,7 +157,7 @@ typedef struct {
     uint64_t location; /* location, value and length as in las_geokey */
     uint64_t value;
     uint64_t length;
-    uint64_t reads; /* 0 to 13; also beside 42 to 46, and 0 beside any other number */
+    uint64_t reads; /* 0 to 13; beside 42 to 46 too, and 0 beside any other refusal */
 } las_geokey_read;
 
 /* Whether a sheet keeps something. */

@@ -1,5 +1,5 @@
 -- What is found in a file's records, as the numbers that another language is given. On a refusal every field but
--- `number` is 0, and but for the entries read.
+-- `number` is 0; 42 to 46 of a lookup by halving also have the entries read.
 -- Assumes nothing.
 use Prim.Native.Nat.{ℕ}
 use Rattle.reader.specs.declared.cursor.RecordPlaces.{RecordPlaces}

@@ -70,7 +70,7 @@ pub const NO_DIRECTORY: u64 = 40;
 // The directory is cut or of another version.
 pub const BAD_DIRECTORY: u64 = 41;
 
-// The key is not in the directory.
+// The key is not found in the directory.
 pub const NO_KEY: u64 = 42;
 
 // The key's location is none that is known.

@@ -21,7 +21,7 @@ pub length-before : (es : List Bytes) → length (before es) ≡ length es / 2
 unfolding before
 length-before es = length-take (length es / 2) es ∙ omega arith
 
-pub length-after : (es : List Bytes) → length (after es) ≡ length es - (length es / 2 + 1)
+length-after : (es : List Bytes) → length (after es) ≡ length es - (length es / 2 + 1)
 unfolding after
 length-after es = length-drop (length es / 2 + 1) es
 
@@ -48,7 +48,7 @@ unfolding halve halving
 halve-none key = refl
 
 -- where entries are left, the middle one is read
-pub halve-step : (es : List Bytes) (key : ℕ) → 0 < length es
+halve-step : (es : List Bytes) (key : ℕ) → 0 < length es
     → halve es key
     ≡ goOn (eqb (keyOf (middle es)) key) (ltb key (keyOf (middle es))) (middle es) (halve (before es) key) (halve (after es) key)
 unfolding halve halving
@@ -118,10 +118,10 @@ in-three es h =
     let e : length es / 2 + 1 ≡ suc (length es / 2) = omega arith in
     rw e (split-at es (length es / 2) [] (omega arith))
 
-module _ (es bs : List Bytes) (e : Bytes) (cs : List Bytes) (whole : es ≡ bs ++ e ∷ cs) (place : length bs ≡ length es / 2) where
-  pub any-there : 0 < length es
-  any-there = omega (arith, ap length whole, length-append bs (e ∷ cs))
+pub any-there : (es bs : List Bytes) (e : Bytes) (cs : List Bytes) → es ≡ bs ++ e ∷ cs → 0 < length es
+any-there es bs e cs whole = omega (arith, ap length whole, length-append bs (e ∷ cs))
 
+module _ (es bs : List Bytes) (e : Bytes) (cs : List Bytes) (whole : es ≡ bs ++ e ∷ cs) (place : length bs ≡ length es / 2) where
   pub middle-of : middle es ≡ e
   unfolding middle
   middle-of = ap (λ (l : List Bytes). getD l (length es / 2) []) whole ∙ getD-at bs e cs [] (length es / 2) place

@@ -1,4 +1,4 @@
--- What the searches of the code answer: a place, or that there is none.
+-- What the searches of the code answer: a place, or that there is none, or why; and the entries read.
 -- Assumes nothing.
 use mathlib.Core.Path.{_≡_}
 use Prim.Native.Nat.{ℕ, _<_, _^_}

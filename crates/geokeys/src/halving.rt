@@ -27,7 +27,7 @@ struct Search {
     reads: u64,
 }
 
-// What a search found, with one entry read before it.
+// What a search found, with one entry read before it. No search reads as many as 32, so that the sum fits.
 fn one_more(rest: Search) -> Search
     requires { ⌜ rest .reads < 32 ⌝ }
     ensures { λ r. ⌜ r ≡ record { found = rest .found; reads = rest .reads + 1 } ⌝ }

@@ -92,6 +92,7 @@ pub as-the-plain-lookup-met : AsThePlainLookupMet
 as-the-plain-lookup-met =
     record {
       risen-searched = risen-searched;
+      entries-agree = as-the-plain-lookup .entries-agree risen 3 rising;
       there = as-the-plain-lookup .agrees (keyFile risen) 1 rising-there;
       numbers = sym (as-the-plain-lookup .numbers-agree (keyFile risen) 1 rising-there) ∙ rw risen-found;
       not-there = as-the-plain-lookup .agrees (keyFile risen) 4 rising-there;

@@ -4,12 +4,12 @@
 use mathlib.Core.Path.{_≡_}
 use Prim.Native.Nat.{ℕ, _+_, _*_, _≤_, _<_}
 use mathlib.Core.List.{List, [], _∷_, _++_}
-use mathlib.Core.Option.{none, some}
+use mathlib.Core.Option.{some}
 use lib.ListN.{length}
 use Rattle.fields.specs.Bytes.{Bytes, bytesOf, zeros, join}
 use Rattle.lasfile.specs.HeaderFields.{signature, version}
 use Rattle.lasfile.specs.FileChecks.{fileChecks}
-use Rattle.geokeys.specs.GeoKeys.{projection, searched, lookup}
+use Rattle.geokeys.specs.GeoKeys.{projection, entryOf, searched, lookup}
 use Rattle.geokeys.specs.Halving.{halve, lookupByHalving}
 use Rattle.geokeys.specs.declared.GeoKey.the-variants.{Value, Refused}
 use Rattle.capi.specs.Interface.{lasGeokeyFind, lasGeokeyHalve}
@@ -65,7 +65,8 @@ fallen = entry 2 20 ∷ entry 1 10 ∷ []
 
 pub record HalvingDemand1Met : Type 0 where
   -- 42 has the entry that was read beside it
-  pub zeros-beside : lasGeokeyHalve (keyFile fallen) 2 ≡ record { number = 42; location = 0; value = 0; length = 0; reads = 1 }
+  pub zeros-beside : lasGeokeyHalve (keyFile fallen) 2
+      ≡ record { number = 42; location = 0; value = 0; length = 0; reads = 1 }
   -- 40 has none
   pub none-beside : lasGeokeyHalve file9 1 ≡ record { number = 40; location = 0; value = 0; length = 0; reads = 0 }
   -- 42 is the number of the table
@@ -94,12 +95,15 @@ pub record ReadsFewMet : Type 0 where
 pub record AsThePlainLookupMet : Type 0 where
   -- the file's directory has these three entries
   pub risen-searched : searched (keyFile risen) ≡ risen
+  -- halving comes to the first entry of a key
+  pub entries-agree : halve risen 3 .entry ≡ entryOf risen 3
   -- a key that is there, and one that is not
   pub there : lookupByHalving (keyFile risen) 1 .found ≡ lookup (keyFile risen) 1
   pub numbers : lasGeokeyFind (keyFile risen) 1 ≡ record { number = 0; location = 0; value = 10; length = 0 }
   pub not-there : lookupByHalving (keyFile risen) 4 .found ≡ lookup (keyFile risen) 4
-  -- no directory is refused alike
-  pub before-search : (lookup file9 1 ≡ Refused 40) × (lookupByHalving file9 1 ≡ record { found = Refused 40; reads = 0 })
+  -- a file without a directory is refused alike
+  pub before-search : (lookup file9 1 ≡ Refused 40)
+      × (lookupByHalving file9 1 ≡ record { found = Refused 40; reads = 0 })
   -- what is found where the key IDs fall has the key
   pub finds-the-key : HasKey fallen 1 (entry 1 10)
 

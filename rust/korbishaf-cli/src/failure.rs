@@ -3,7 +3,7 @@
 /// A failure: its exit status, and its words for standard error, which are empty where all is said already.
 #[derive(Debug, PartialEq, Eq)]
 pub enum Failure {
-    /// A file or a sheet is refused, or a file not verified.
+    /// A file, a sheet or a key is refused, or a file not verified.
     Refused(String),
     /// The command is not used as it should be.
     Usage(String),

@@ -144,7 +144,7 @@ fn a_difference_is_a_warning() {
             &[[1024, 0, 1, 2], [1000, 0, 1, 0], [7, 0, 1, 0]][..],
             "2 (geographic)",
             "2 of 3 entries read",
-            "refused 42: the key is not in the GeoKey directory",
+            "refused 42: the key is not found in the GeoKey directory",
         ),
         (
             &[[1024, 0, 1, 2], [1024, 0, 1, 1]],
@@ -251,7 +251,7 @@ fn a_directory_of_8190_keys() {
         assert_eq!(ran, Ran::new(0, &wanted, ""));
     }
     for (key, reads) in [(0, 13), (32770, 13), (65535, 12)] {
-        let refused = "in.las: refused 42: the key is not in the GeoKey directory";
+        let refused = "in.las: refused 42: the key is not found in the GeoKey directory";
         let wanted = format!("{refused} (key {key})\nby halving ({reads} {all}");
         let ran = scratch.says(&format!("geokey in.las {key}"));
         assert_eq!(ran, Ran::new(1, "", &wanted));

@@ -30,7 +30,7 @@ fn directories_that_are_absent_or_bad() {
 
 #[test]
 fn keys_that_are_not_there() {
-    let words = "in.las: refused 42: the key is not in the GeoKey directory";
+    let words = "in.las: refused 42: the key is not found in the GeoKey directory";
     for (entries, key, about, reads) in [
         (
             &[][..],
@@ -115,7 +115,7 @@ fn a_difference_is_a_warning() {
         ),
         (
             &[[1024, 0, 2, 1], [7, 0, 1, 1], [7, 0, 1, 1]],
-            "by halving (2 of 3 entries read): refused 42: the key is not in the GeoKey directory",
+            "by halving (2 of 3 entries read): refused 42: the key is not found in the GeoKey directory",
         ),
     ] {
         refuses(&scan(entries), 1024, &[refused, halving, WARNING]);

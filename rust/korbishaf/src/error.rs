@@ -136,7 +136,7 @@ pub fn refusal_words(number: u64) -> Option<&'static str> {
         31 => "the list is shorter than the kept records and points together",
         40 => "there is no GeoKey directory",
         41 => "the GeoKey directory is too short or does not begin 1, 1, 0",
-        42 => "the key is not in the GeoKey directory",
+        42 => "the key is not found in the GeoKey directory",
         43 => "the key's location is not 0, 34736 or 34737",
         44 => "a short or a double has a count other than 1",
         45 => "the parameter record that the key's location names is absent",

@@ -148,7 +148,7 @@ pub struct las_geokey_read {
     pub value: u64,
     /// As in [`las_geokey`].
     pub length: u64,
-    /// 0 to 13; also beside 42 to 46, and 0 beside any other number.
+    /// 0 to 13; beside 42 to 46 too, and 0 beside any other refusal.
     pub reads: u64,
 }
 

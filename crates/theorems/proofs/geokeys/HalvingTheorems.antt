@@ -25,7 +25,7 @@ use Rattle.theorems.specs.Halving.{Middle, Halves, ReadsFew, Rising, Has
 
 module _ (es bs : List Bytes) (e : Bytes) (cs : List Bytes) (key : ℕ) (m : Middle es bs e cs) where
   any : 0 < length es
-  any = any-there es bs e cs (m .whole) (m .place)
+  any = any-there es bs e cs (m .whole)
 
   key-is : keyOf (middle es) ≡ keyOf e
   key-is = ap keyOf (middle-of es bs e cs (m .whole) (m .place))

@@ -22,14 +22,6 @@ pub fn assert_file_number(compared: &mut Compared, number: u64) {
     assert!(given.iter().all(|&times| times > 0), "{given:?}");
 }
 
-#[test]
-fn each_file_number_is_given_exactly_on_its_side_of_the_boundary() {
-    let mut compared = Compared::new();
-    for number in 1..=10 {
-        assert_file_number(&mut compared, number);
-    }
-}
-
 /// A file with these records, and bytes behind its point so that single fields may be spoiled one by one.
 fn spoiled(records: &[RecordSpec], numbers: &[u64]) -> Vec<u8> {
     let mut file = FileSpec {

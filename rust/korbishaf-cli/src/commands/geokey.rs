@@ -18,9 +18,9 @@ pub const COMMAND: Command = Command {
     operands: "FILE KEY",
     count: (2, 2),
     flags: &[Flag::Quiet, Flag::Json],
-    summary: "say the value of one GeoKey of a scan, and how a lookup by halving fares",
+    summary: "say the value of one GeoKey of a scan, and what a lookup by halving gives",
     details: "\
-Says the value of one GeoKey of the scan FILE, and how a lookup by halving fares. KEY is a number from 0
+Says the value of one GeoKey of the scan FILE, and what a lookup by halving gives. KEY is a number from 0
 to 65535, or a name as 'korbishaf show' has it, in any case. This is an example of all that is printed:
 
   3072  ProjectedCSTypeGeoKey  32633

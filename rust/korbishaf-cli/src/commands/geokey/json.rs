@@ -5,7 +5,7 @@ use crate::facts::geokeys::Value;
 use crate::facts::json::{key_named, refusal, value_of};
 use crate::json::Json;
 
-/// The key with its value, and how halving fares, as one object.
+/// The key with its value, and what halving gives, as one object.
 pub fn of(name: &str, lookup: &Lookup<'_>) -> Json {
     let value = lookup.plain.ok().map(Value::from);
     let mut members = vec![("file", Json::text(name))];

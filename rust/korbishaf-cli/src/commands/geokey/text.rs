@@ -9,7 +9,7 @@ use korbishaf::{Error, GeoKeyValue};
 const WARNING: &str = "warning: the answers differ, since the directory's keys do not rise strictly; \
                        do not rely on halving in this file";
 
-/// The key with its value, in a line as `show` has it, and how halving fares.
+/// The key with its value, in a line as `show` has it, and what halving gives.
 pub fn found(lookup: &Lookup<'_>) -> String {
     let (key, name) = (lookup.key, key_name(lookup.key));
     format!(
@@ -19,7 +19,7 @@ pub fn found(lookup: &Lookup<'_>) -> String {
     )
 }
 
-/// Why there is no value of the key in a file of that name, and how halving fares.
+/// Why there is no value of the key in a file of that name, and what halving gives.
 pub fn refused(name: &str, lookup: &Lookup<'_>, refused: &Error) -> String {
     let key = match geokeys::name(lookup.key) {
         Some(key_name) => format!("key {}, {key_name}", lookup.key),
