@@ -123,7 +123,7 @@ fromEntry s (some entry) =
     (either (eqb (locationOf entry) 0) (Value (offsetOf entry))
     (inParameters s entry (projectionPlace s (locationOf entry))))
 
--- ---- the directory of a file: the payload of the first record with the record ID 34735
+-- ---- the directory of a file: the payload of its first record "LASF_Projection" 34735
 
 unfoldable pub payloadIn : Bytes → Option ℕ → Option Bytes
 payloadIn s none = none
