@@ -38,7 +38,7 @@ use Rattle.capi.specs.HeaderAnswers.{headerNumbers}
 use Rattle.capi.specs.declared.header.«las_header».{«las_header»}
 
 unfoldable pub lasLevel : ℕ
-lasLevel = 6
+lasLevel = 7
 
 unfoldable pub lasCheckFile : Bytes → ℕ
 lasCheckFile file = numberOf (fileVerdict file)

@@ -54,7 +54,7 @@ use sheet::check_sheet;
 pub extern "C" fn las_level() -> u64
     ensures { λ r. ⌜ r ≡ lasLevel ⌝ }
 {
-    6
+    7
 }
 
 #[no_mangle]

@@ -1,11 +1,12 @@
 -- Laws of lists: what is kept, sums, and what holds of every element.
 -- Assumes nothing.
 use mathlib.Core.Path.{_≡_, refl, sym, ap, _∙_, fun-ext}
-use Prim.Native.Nat.{ℕ, suc, _+_, _≤_}
+use Prim.Native.Nat.{ℕ, zero, suc, _+_, _≤_, _<_}
 use native.Mathlib.Omega.{arith}
-use mathlib.Core.Bool.{Bool, true, false, _&&_, and-comm}
+use mathlib.Core.Bool.{Bool, true, false, not, _&&_, _||_, and-comm, or-assoc, or-false}
 use mathlib.Core.List.{List, [], _∷_, _++_, map}
-use lib.ListN.{length}
+use lib.ListN.{length, getD, take}
+use lib.Dec.{eqb, eqb·suc-zero}
 use Rattle.fields.specs.Lists.{All, kept, consIf, total, anyOf}
 
 module _ {ℓ} {A : Type ℓ} where
@@ -110,6 +111,37 @@ module _ {ℓ} {A : Type ℓ} where
   unfolding anyOf
   some-same p q [] h = refl
   some-same p q (x ∷ xs) h = rw (h .0, some-same p q xs (h .1))
+
+  -- some element passes two tests where one of those that pass the first passes the second
+  pub some-kept : (p q : A → Bool) (l : List A) → anyOf (λ x. p x && q x) l ≡ anyOf q (kept p l)
+  unfolding anyOf kept consIf
+  some-kept p q [] = refl
+  some-kept p q (x ∷ xs) = first (p x) (some-kept p q xs)
+    where
+      first : (b : Bool) → anyOf (λ x. p x && q x) xs ≡ anyOf q (kept p xs)
+          → ((b && q x) || anyOf (λ x. p x && q x) xs) ≡ anyOf q (consIf b x (kept p xs))
+      first true e = ap (λ (r : Bool). q x || r) e
+      first false e = e
+
+  -- and none passes where none is kept
+  pub some-counted : (p : A → Bool) (l : List A) → anyOf p l ≡ not (eqb (length (kept p l)) 0)
+  unfolding anyOf kept consIf
+  some-counted p [] = refl
+  some-counted p (x ∷ xs) = first (p x) (some-counted p xs)
+    where
+      first : (b : Bool) → anyOf p xs ≡ not (eqb (length (kept p xs)) 0)
+          → (b || anyOf p xs) ≡ not (eqb (length (consIf b x (kept p xs))) 0)
+      first true e = ap not (sym (eqb·suc-zero (length (kept p xs))))
+      first false e = e
+
+  -- of the first elements, and one more
+  pub some-take : (p : A → Bool) (n : ℕ) (l : List A) (d : A) → n < length l
+      → anyOf p (take (suc n) l) ≡ (anyOf p (take n l) || p (getD l n d))
+  unfolding anyOf
+  some-take p n [] d h = absurd (omega arith)
+  some-take p zero (x ∷ xs) d h = or-false (p x)
+  some-take p (suc n) (x ∷ xs) d h =
+      ap (λ (r : Bool). p x || r) (some-take p n xs d (omega arith)) ∙ sym (or-assoc (p x) (anyOf p (take n xs)) (p (getD xs n d)))
 
   pub all-of : (P : A → Type 0) (l : List A) → ((x : A) → P x) → All P l
   all-of P [] h = tt

@@ -7,6 +7,7 @@ use Prim.Native.Nat.{ℕ, _+_, _-_, _*_, _≤_}
 use native.Mathlib.Omega.{arith}
 use mathlib.Core.List.{List, [], _∷_, _++_, append-assoc}
 use lib.ListN.{length, take, drop, getD, length-append, length-drop, length-replicate, replicate-append-replicate}
+use lib.IntN.{ℤ}
 use lib.Seq.{sets, sets-eq, length-sets, length-take-le, getD-drop, take-at, drop-at, take-append-add}
 use Rattle.fields.specs.Lists.{All, total}
 use Rattle.fields.specs.Bytes.{Bytes, AllBytes, zeros, join, pieces}
@@ -21,7 +22,8 @@ use Rattle.lasfile.proofs.header.FieldLaws.{count-low}
 use Rattle.lasfile.specs.HeaderFields.{headerBlock, pointOffset, pointCount, recordLength, format}
 use Rattle.lasfile.specs.FileChecks.{fileVerdict}
 use Rattle.lasfile.proofs.Passed.{passed}
-use Rattle.sheet.specs.Keeping.{keepsPoint, TableOf, inTable}
+use Rattle.sheet.specs.Keeping.{keepsPoint, TableOf}
+use Rattle.sheet.specs.Boxes.{BoxesOf, keepsBy}
 use Rattle.points.proofs.raw.RunLaws.{InRun}
 use Rattle.tally.specs.Tally.{tallyOf}
 use Rattle.tally.proofs.TallyLaws.{tally-count, tally-bins}
@@ -40,7 +42,7 @@ use Rattle.release.specs.Heads.{headWith, headBytes}
 use Rattle.release.proofs.head.HeadLaws.{whole-head}
 use Rattle.release.specs.declared.vlrs.KeptRecords.{KeptRecords}
 use Rattle.release.specs.KeptRecords.{measured}
-use Rattle.sheet.proofs.class_table.ClassLaws.{table-keeps}
+use Rattle.sheet.proofs.boxes.BoxLaws.{keeps-by}
 use Rattle.release.specs.Assembly.{keptIn, endOfPoints, totalsOf, withPoints, written}
 use Rattle.release.proofs.kept_points.KeptPointLaws.{kept-held}
 use Rattle.release.proofs.assembly.PointLaws.{kept-in, points-end, with-points}
@@ -151,11 +153,11 @@ module _ (sheet s : Bytes) (bytes : AllBytes s) (passes : fileVerdict s ≡ Pass
         rw (own-head, append-assoc front records (points ++ z))
         (over-front front (records ++ (points ++ z)) head (length-front ∙ sym length-of-head) ∙ sym (render-parts part-of z))
 
-  module _ (table : List Bool) (right : TableOf sheet (format s) table) where
-    -- the table keeps the points that the sheet keeps
-    by-table : (ps : List Bytes) → All AllBytes ps → All (λ p. inTable table (format s) p ≡ keepsPoint sheet (format s) p) ps
+  module _ (table : List Bool) (right : TableOf sheet (format s) table) (boxes : List ℤ) (read : BoxesOf sheet boxes) where
+    -- table and boxes keep the points that the sheet keeps
+    by-table : (ps : List Bytes) → All AllBytes ps → All (λ p. keepsBy table boxes (format s) p ≡ keepsPoint sheet (format s) p) ps
     by-table [] h = tt
-    by-table (p ∷ ps) h = (table-keeps sheet (format s) table right p (h .0), by-table ps (h .1))
+    by-table (p ∷ ps) h = (keeps-by sheet (format s) table boxes right read p (h .0), by-table ps (h .1))
 
     run-bytes : AllBytes run
     run-bytes i = rw getD-drop (bytes (pointOffset s + i))
@@ -163,11 +165,11 @@ module _ (sheet s : Bytes) (bytes : AllBytes s) (passes : fileVerdict s ≡ Pass
     held : InRun (pointCount s) (recordLength s) (length run)
     held = record { long = long; few = count-low s bytes; within = simp length-drop (omega (arith, passed s passes .pointed)) }
 
-    pub points-are : keptIn table s ≡ part-of .points
+    pub points-are : keptIn table boxes s ≡ part-of .points
     points-are =
-        rw (kept-in table s, public-points sheet s, contents-points s)
-        (kept-held table (format s) (pointCount s) (recordLength s) run held
-        ∙ kept-same (inTable table (format s)) (keepsPoint sheet (format s)) (pieces (pointCount s) (recordLength s) run)
+        rw (kept-in table boxes s, public-points sheet s, contents-points s)
+        (kept-held (keepsBy table boxes (format s)) (pointCount s) (recordLength s) run held
+        ∙ kept-same (keepsBy table boxes (format s)) (keepsPoint sheet (format s)) (pieces (pointCount s) (recordLength s) run)
         (by-table (pieces (pointCount s) (recordLength s) run) (pieces-bytes (pointCount s) (recordLength s) run run-bytes)))
 
     module _ (out : Bytes) (room : length (render part-of) ≤ length out) where
@@ -176,28 +178,28 @@ module _ (sheet s : Bytes) (bytes : AllBytes s) (passes : fileVerdict s ≡ Pass
           rw (sets-eq records out headerBlock (omega (arith, render-length, offset-is)))
           (take-at (front out room ++ records) (drop (headerBlock + length records) out) (newOffset part-of) (length-both out room))
 
-      points-stored : withPoints table s (newOffset part-of) (sets out headerBlock records) ≡ (front out room ++ records) ++ (points ++ z out room)
+      points-stored : withPoints table boxes s (newOffset part-of) (sets out headerBlock records) ≡ (front out room ++ records) ++ (points ++ z out room)
       points-stored =
           let n : length out - newOffset part-of - length points ≡ length out - length (render part-of) = omega (arith, render-length, length-of-points) in
           rw (with-points, records-stored, length-sets, points-are, zeros-behind points (length out - newOffset part-of) (omega (arith, render-length, length-of-points)), n)
 
       -- records, points and zeros at their places, and the header over the front
-      pub assembled : written sheet s table (length (part-of .records)) (newOffset part-of) out ≡ render part-of ++ z out room
+      pub assembled : written sheet s table boxes (length (part-of .records)) (newOffset part-of) out ≡ render part-of ++ z out room
       assembled = rw (written-is, points-stored, points-are) (headed out room)
 
 -- what was measured, over the released file
-pub record Sized (sheet s : Bytes) (table : List Bool) (k : KeptRecords) : Type 0 where
+pub record Sized (sheet s : Bytes) (table : List Bool) (boxes : List ℤ) (k : KeptRecords) : Type 0 where
   pub offset : k .end ≡ newOffset (publicOf sheet s)
-  pub needed : endOfPoints table s (k .end) ≡ length (render (publicOf sheet s))
-  pub points : length (keptIn table s) ≡ length (publicOf sheet s .points)
+  pub needed : endOfPoints table boxes s (k .end) ≡ length (render (publicOf sheet s))
+  pub points : length (keptIn table boxes s) ≡ length (publicOf sheet s .points)
   pub records : k .count ≡ length (publicOf sheet s .records)
   pub most : k .end + pointCount s * recordLength s ≤ length s
 
 pub sized : (sheet s : Bytes) → AllBytes s → fileVerdict s ≡ Passes → (table : List Bool) → TableOf sheet (format s) table
-    → (k : KeptRecords) → k ≡ measured (publicOf sheet s .records) → Sized sheet s table k
+    → (boxes : List ℤ) → BoxesOf sheet boxes → (k : KeptRecords) → k ≡ measured (publicOf sheet s .records) → Sized sheet s table boxes k
 unfolding measured
-sized sheet s bytes passes table right k m =
-    let points : length (keptIn table s) ≡ length (publicOf sheet s .points) = ap length (points-are sheet s bytes passes table right) in
+sized sheet s bytes passes table right boxes read k m =
+    let points : length (keptIn table boxes s) ≡ length (publicOf sheet s .points) = ap length (points-are sheet s bytes passes table right boxes read) in
     let offset : k .end ≡ newOffset (publicOf sheet s) = rw (new-offset (publicOf sheet s)) (ap (λ (r : KeptRecords). r .end) m) in
     record {
       offset = offset;

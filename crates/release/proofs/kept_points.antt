@@ -2,3 +2,4 @@ pub mod KeptPointLaws
 pub mod LoopLaws
 pub mod PickedLaws
 mod ChooseLaws
+mod StayLaws

@@ -6,26 +6,27 @@ use Prim.Native.Nat.{ℕ, zero, suc, _+_, _*_, _^_, _<_}
 use mathlib.Core.Bool.{Bool, cond}
 use mathlib.Core.List.{List, _++_}
 use lib.Dec.{ltb}
+use lib.IntN.{ℤ}
 use Rattle.fields.specs.Lists.{consIf}
 use Rattle.fields.specs.Bytes.{Bytes}
 use Rattle.lasfile.specs.HeaderFields.{headerSize, pointOffset, recordCount, format, recordLength, pointCount}
-use Rattle.sheet.specs.Keeping.{inTable}
+use Rattle.sheet.specs.Boxes.{keepsBy}
 use Rattle.publicpart.specs.declared.Span.{Span}
 use Rattle.publicpart.specs.Cutting.{span, payloadLine, payloadLines, pieceLines}
 use Rattle.release.specs.declared.filling.Filling.{Filling}
 
--- the lines of n records and m points, each from a place on, where a table says which points are kept
-unfoldable pub linesOf : Bytes → List Bool → Bytes → ℕ → ℕ → ℕ → ℕ → List Span
-linesOf sheet table s n record-at m point-at =
-    payloadLines sheet s n record-at ++ pieceLines (inTable table (format s)) s (recordLength s) m point-at
+-- the lines of n records and m points, each from a place on, where a table and boxes say which points are kept
+unfoldable pub linesOf : Bytes → List Bool → List ℤ → Bytes → ℕ → ℕ → ℕ → ℕ → List Span
+linesOf sheet table boxes s n record-at m point-at =
+    payloadLines sheet s n record-at ++ pieceLines (keepsBy table boxes (format s)) s (recordLength s) m point-at
 
 -- of what is still to look at
-abbrev pub linesFrom : Bytes → List Bool → Bytes → Filling → List Span
-linesFrom sheet table s t = linesOf sheet table s (t .records) (t .«record_at») (t .points) (t .«point_at»)
+abbrev pub linesFrom : Bytes → List Bool → List ℤ → Bytes → Filling → List Span
+linesFrom sheet table boxes s t = linesOf sheet table boxes s (t .records) (t .«record_at») (t .points) (t .«point_at»)
 
 -- of a file
-abbrev pub tableLines : Bytes → List Bool → Bytes → List Span
-tableLines sheet table s = linesOf sheet table s (recordCount s) (headerSize s) (pointCount s) (pointOffset s)
+abbrev pub tableLines : Bytes → List Bool → List ℤ → Bytes → List Span
+tableLines sheet table boxes s = linesOf sheet table boxes s (recordCount s) (headerSize s) (pointCount s) (pointOffset s)
 
 -- the header's fields are the file's, and sums of places and of lines do not wrap: a record has less than 2 ^ 17 bytes
 pub record Ready (s : Bytes) (t : Filling) : Type 0 where
@@ -70,13 +71,13 @@ pub record Begun (s : Bytes) (n : ℕ) (t : Filling) : Type 0 where
   pub ready : Ready s t
   pub none : t .k ≡ 0
   pub bound : t .n ≡ n
-  pub lines : (sheet : Bytes) (table : List Bool) → linesFrom sheet table s t ≡ tableLines sheet table s
+  pub lines : (sheet : Bytes) (table : List Bool) (boxes : List ℤ) → linesFrom sheet table boxes s t ≡ tableLines sheet table boxes s
 
 -- the thing at hand was looked at: where it is kept its line comes first, and k counts it
-pub record Looked (sheet : Bytes) (table : List Bool) (s : Bytes) (t r : Filling) : Type 0 where
+pub record Looked (sheet : Bytes) (table : List Bool) (boxes : List ℤ) (s : Bytes) (t r : Filling) : Type 0 where
   pub ready : Ready s r
   pub bound : r .n ≡ t .n
   pub keep : Bool
   pub count : r .k ≡ t .k + cond keep 1 0
-  pub lines : linesFrom sheet table s t ≡ consIf keep (span (t .place) (t .length)) (linesFrom sheet table s r)
+  pub lines : linesFrom sheet table boxes s t ≡ consIf keep (span (t .place) (t .length)) (linesFrom sheet table boxes s r)
   pub fewer : r .records + r .points < t .records + t .points

@@ -1,4 +1,4 @@
--- The points of a run that a table keeps.
+-- The points of a run that are kept.
 -- Assumes nothing.
 use Prim.Native.Nat.{ℕ, _+_, _≤_}
 use mathlib.Core.Bool.{Bool}
@@ -7,15 +7,14 @@ use lib.ListN.{length}
 use Rattle.fields.specs.Lists.{All, kept}
 use Rattle.fields.specs.Bytes.{Bytes, part, pieces}
 use Rattle.points.specs.Raw.{pointsOf}
-use Rattle.sheet.specs.Keeping.{inTable}
 
--- those of the points of a run, all of one format, that a table keeps
-unfoldable pub keptPoints : List Bool → ℕ → ℕ → ℕ → Bytes → List Bytes
-keptPoints table f count len run = kept (inTable table f) (pointsOf count len run)
+-- those of the points of a run that pass a test
+unfoldable pub keptPoints : (Bytes → Bool) → ℕ → ℕ → Bytes → List Bytes
+keptPoints keep count len run = kept keep (pointsOf count len run)
 
 -- the kept records of a run that holds them all
-abbrev pub keptOf : List Bool → ℕ → ℕ → ℕ → Bytes → List Bytes
-keptOf table f count len run = kept (inTable table f) (pieces count len run)
+abbrev pub keptOf : (Bytes → Bool) → ℕ → ℕ → Bytes → List Bytes
+keptOf keep count len run = kept keep (pieces count len run)
 
 -- ---- records by their places
 

@@ -15,11 +15,19 @@ use tally::Tally;
 
 // Lends the output from the new point offset `start` on to the point copier, which zeros the rest, and says the tally
 // of the kept points.
-fn put_points(file: &[u8], table: &[bool; 256], start: usize, out: &mut [u8]) -> Tally
-    requires { ⌜ RoomFor (now table) (now file) start (length (now out)) ⌝ }
+fn put_points(
+    file: &[u8],
+    table: &[bool; 256],
+    boxes: &[i32; 385],
+    start: usize,
+    out: &mut [u8],
+) -> Tally
+    requires { ⌜ RoomFor (now table) (now boxes) (now file) start (length (now out)) ⌝ }
     ensures { λ r. ⌜
-        (r ≡ tallyOf (format (now (file .entry))) (keptIn (now (table .entry)) (now (file .entry))))
-        × (now (out .exit) ≡ withPoints (now (table .entry)) (now (file .entry)) start (now (out .entry))) ⌝ }
+        (r
+        ≡ tallyOf (format (now (file .entry))) (keptIn (now (table .entry)) (now (boxes .entry)) (now (file .entry))))
+        × (now (out .exit)
+        ≡ withPoints (now (table .entry)) (now (boxes .entry)) (now (file .entry)) start (now (out .entry))) ⌝ }
 {
     let offset = header::point_offset(file);
     let format = header::format(file);
@@ -31,6 +39,7 @@ fn put_points(file: &[u8], table: &[bool; 256], start: usize, out: &mut [u8]) ->
         record_length,
         count,
         table,
+        boxes,
         &mut out[start..],
     )
 }
@@ -56,18 +65,19 @@ pub(crate) fn write(
     file: &[u8],
     sheet: &[u8],
     table: &[bool; 256],
+    boxes: &[i32; 385],
     records: usize,
     start: usize,
     out: &mut [u8],
 ) -> usize
-    requires { ⌜ RoomFor (now table) (now file) start (length (now out)) ⌝ }
-    ensures { λ r. ⌜ (r ≡ length (keptIn (now (table .entry)) (now (file .entry))))
+    requires { ⌜ RoomFor (now table) (now boxes) (now file) start (length (now out)) ⌝ }
+    ensures { λ r. ⌜ (r ≡ length (keptIn (now (table .entry)) (now (boxes .entry)) (now (file .entry))))
         × (now (out .exit)
-        ≡ written (now (sheet .entry)) (now (file .entry)) (now (table .entry)) records start
+        ≡ written (now (sheet .entry)) (now (file .entry)) (now (table .entry)) (now (boxes .entry)) records start
         (now (out .entry))) ⌝ }
 {
     vlrs::copy_records(file, sheet, out);
-    let tally = put_points(file, table, start, out);
+    let tally = put_points(file, table, boxes, start, out);
     head::put_head(file, totals_of(file, tally, records, start), out);
     tally.count as usize
 }

@@ -1,10 +1,11 @@
-// The point copier: writes the points that a table keeps, and no byte of another, and tallies them.
+// The point copier: writes the points that a table and boxes keep, and no byte of another, and tallies them.
 ghost use mathlib.Core.Path.{_≡_};
 ghost use mathlib.Core.List.{_++_};
 ghost use Prim.Native.Nat.{_*_, _^_, _<_, _≤_};
 ghost use lib.ListN.{length, take};
 ghost use lib.Seq.{sets};
 ghost use Rattle.fields.specs.Bytes.{join, zeros};
+ghost use Rattle.sheet.specs.Boxes.{keepsBy};
 ghost use Rattle.tally.specs.Tally.{tallyOf};
 ghost use Rattle.release.specs.KeptPoints.{keptPoints, keptOf, picked, Places};
 use crate::kept_points;
@@ -46,20 +47,24 @@ fn copy_block(
     record_length: usize,
     n: usize,
     table: &[bool; 256],
+    boxes: &[i32; 385],
     chosen: &mut [usize],
     out: &mut [u8],
 ) -> usize
     requires { ⌜ (n ≤ 64)
         × (n ≤ length (now chosen))
         × (n * «record_length» ≤ length (now block))
-        × (length (keptOf (now table) format n «record_length» (now block)) * «record_length» ≤ length (now out)) ⌝ }
+        × (length (keptOf (keepsBy (now table) (now boxes) format)
+        n «record_length» (now block)) * «record_length» ≤ length (now out)) ⌝ }
     ensures { λ r. ⌜
-        (r ≡ length (keptOf (now (table .entry)) format n «record_length» (now (block .entry))))
+        (r ≡ length (keptOf (keepsBy (now (table .entry)) (now (boxes .entry)) format)
+        n «record_length» (now (block .entry))))
         × (now (out .exit)
         ≡ sets (now (out .entry)) 0
-        (join (keptOf (now (table .entry)) format n «record_length» (now (block .entry))))) ⌝ }
+        (join (keptOf (keepsBy (now (table .entry)) (now (boxes .entry)) format)
+        n «record_length» (now (block .entry))))) ⌝ }
 {
-    let k = kept_points::choose(block, format, record_length, n, table, chosen);
+    let k = kept_points::choose(block, format, record_length, n, table, boxes, chosen);
     if k == n {
         let end = n * record_length;
         copying::copy_whole(&block[..end], out, 0);
@@ -77,18 +82,21 @@ fn copy_run(
     record_length: usize,
     count: usize,
     table: &[bool; 256],
+    boxes: &[i32; 385],
     out: &mut [u8],
 ) -> Tally
     requires { ⌜ (20 ≤ «record_length»)
         × (count < 2 ^ 32)
         × (count * «record_length» ≤ length (now run))
-        × (length (keptOf (now table) format count «record_length» (now run)) * «record_length»
+        × (length (keptOf (keepsBy (now table) (now boxes) format) count «record_length» (now run)) * «record_length»
         ≤ length (now out)) ⌝ }
     ensures { λ r. ⌜
-        (r ≡ tallyOf format (keptOf (now (table .entry)) format count «record_length» (now (run .entry))))
+        (r ≡ tallyOf format (keptOf (keepsBy (now (table .entry)) (now (boxes .entry)) format)
+        count «record_length» (now (run .entry))))
         × (now (out .exit)
         ≡ sets (now (out .entry)) 0
-        (join (keptOf (now (table .entry)) format count «record_length» (now (run .entry))))) ⌝ }
+        (join (keptOf (keepsBy (now (table .entry)) (now (boxes .entry)) format)
+        count «record_length» (now (run .entry))))) ⌝ }
 {
     let mut chosen = [0usize; BLOCK];
     let mut t = tally::fresh();
@@ -104,6 +112,7 @@ fn copy_run(
             record_length,
             n,
             table,
+            boxes,
             &mut chosen,
             &mut out[to..],
         );
@@ -122,47 +131,53 @@ fn copy_front(
     record_length: usize,
     count: usize,
     table: &[bool; 256],
+    boxes: &[i32; 385],
     out: &mut [u8],
 ) -> Tally
     requires { ⌜
-        length (keptPoints (now table) format count «record_length» (now run)) * «record_length»
+        length (keptPoints (keepsBy (now table) (now boxes) format) count «record_length» (now run)) * «record_length»
         ≤ length (now out) ⌝ }
     ensures { λ r. ⌜
-        (r ≡ tallyOf format (keptPoints (now (table .entry)) format count «record_length» (now (run .entry))))
+        (r ≡ tallyOf format (keptPoints (keepsBy (now (table .entry)) (now (boxes .entry)) format)
+        count «record_length» (now (run .entry))))
         × (now (out .exit)
         ≡ sets (now (out .entry)) 0
-        (join (keptPoints (now (table .entry)) format count «record_length» (now (run .entry))))) ⌝ }
+        (join (keptPoints (keepsBy (now (table .entry)) (now (boxes .entry)) format)
+        count «record_length» (now (run .entry))))) ⌝ }
 {
     if raw::holds(run.len(), record_length, count) {
-        copy_run(run, format, record_length, count, table, out)
+        copy_run(run, format, record_length, count, table, boxes, out)
     } else {
         tally::fresh()
     }
 }
 
-// Writes those of the first `count` records of `run`, `record_length` bytes each, that the table keeps, one behind the
-// other, and zeros behind them, and says their tally; `out` has room for them. A run that does not hold the records has
-// none.
+// Writes those of the first `count` records of `run`, `record_length` bytes each, that table and boxes keep, one behind
+// the other, and zeros behind them, and says their tally; `out` has room for them. A run that does not hold the records
+// has none.
 pub(crate) fn copy_points(
     run: &[u8],
     format: u8,
     record_length: usize,
     count: usize,
     table: &[bool; 256],
+    boxes: &[i32; 385],
     out: &mut [u8],
 ) -> Tally
     requires { ⌜
-        length (keptPoints (now table) format count «record_length» (now run)) * «record_length»
+        length (keptPoints (keepsBy (now table) (now boxes) format) count «record_length» (now run)) * «record_length»
         ≤ length (now out) ⌝ }
     ensures { λ r. ⌜
-        (r ≡ tallyOf format (keptPoints (now (table .entry)) format count «record_length» (now (run .entry))))
+        (r ≡ tallyOf format (keptPoints (keepsBy (now (table .entry)) (now (boxes .entry)) format)
+        count «record_length» (now (run .entry))))
         × (now (out .exit)
         ≡ take (length (now (out .entry)))
-        (join (keptPoints (now (table .entry)) format count «record_length» (now (run .entry)))
+        (join (keptPoints (keepsBy (now (table .entry)) (now (boxes .entry)) format)
+        count «record_length» (now (run .entry)))
         ++ zeros (length (now (out .entry))))) ⌝ }
 {
     let room = out.len();
-    let t = copy_front(run, format, record_length, count, table, out);
+    let t = copy_front(run, format, record_length, count, table, boxes, out);
     let to = (t.count as usize) * record_length;
     slices::zero(out, to, room);
     t

@@ -1,9 +1,12 @@
 // The cutting list: which parts of a file a release takes, in a lent list.
 ghost use mathlib.Core.Path.{_≡_};
 ghost use Prim.Native.Nat.{_≤_};
+ghost use mathlib.Core.List.{List};
+ghost use lib.IntN.{ℤ};
 ghost use lib.ListN.{length, take};
 ghost use Rattle.fields.specs.declared.Verdict.the-variants.{Passes};
 ghost use Rattle.lasfile.specs.FileChecks.{fileVerdict};
+ghost use Rattle.sheet.specs.Boxes.{BoxesOf};
 ghost use Rattle.publicpart.specs.Public.{publicOf};
 ghost use Rattle.publicpart.specs.Cutting.{cuttingLines, fill, cuttingList};
 ghost use Rattle.release.specs.Filling.{tableLines};
@@ -15,39 +18,58 @@ use fields::Verdict;
 use fields::refusals;
 use publicpart::Listed;
 use publicpart::Span;
+use sheet::boxes;
 
-// The table of `table_for`, by the lines that it gives.
+// The table of `table_for`, by the lines that it gives with the sheet's boxes.
 fn table_of(file: &[u8], sheet: &[u8]) -> [bool; 256]
-    ensures { λ r. ⌜ tableLines (now (sheet .entry)) r (now (file .entry))
-        ≡ cuttingLines (now (sheet .entry)) (now (file .entry)) ⌝ }
+    ensures { λ r. ⌜
+        ((boxes : List ℤ) → BoxesOf (now (sheet .entry)) boxes
+        → tableLines (now (sheet .entry)) r boxes (now (file .entry))
+        ≡ cuttingLines (now (sheet .entry)) (now (file .entry))) ⌝ }
 {
     crate::table_for(file, sheet)
+}
+
+// The sheet's boxes.
+fn boxes_of(sheet: &[u8]) -> [i32; 385]
+    ensures { λ r. ⌜ BoxesOf (now (sheet .entry)) r ⌝ }
+{
+    boxes::boxes_of(sheet)
 }
 
 // Puts the first n lines of a file into a list. Each turn puts the line of what is at hand, kept or not; where that is
 // not kept, the next turn puts its own over it. So no turn branches on whether a point is kept, which no processor can
 // guess. The loop ends with the last kept thing, and no line behind the last is touched.
-fn fill_by_table(file: &[u8], sheet: &[u8], table: &[bool; 256], n: usize, list: &mut [Span])
-    requires { ⌜ (n ≤ length (tableLines (now sheet) (now table) (now file))) × (n ≤ length (now list)) ⌝ }
+fn fill_by_table(
+    file: &[u8],
+    sheet: &[u8],
+    table: &[bool; 256],
+    boxes: &[i32; 385],
+    n: usize,
+    list: &mut [Span],
+)
+    requires { ⌜
+        (n ≤ length (tableLines (now sheet) (now table) (now boxes) (now file))) × (n ≤ length (now list)) ⌝ }
     ensures { λ _. ⌜ now (list .exit)
-        ≡ fill (take n (tableLines (now (sheet .entry)) (now (table .entry)) (now (file .entry))))
+        ≡ fill (take n (tableLines (now (sheet .entry)) (now (table .entry)) (now (boxes .entry)) (now (file .entry))))
         (now (list .entry)) ⌝ }
 {
     let mut t = filling::first_line(file, n);
     while t.more {
         lines::put_line(list, t.k, t.place, t.length);
-        t = filling::next_line(file, sheet, table, t);
+        t = filling::next_line(file, sheet, table, boxes, t);
     }
 }
 
-// The same, with the table that the sheet gives.
+// The same, with the table and the boxes that the sheet gives.
 pub(crate) fn fill_list(file: &[u8], sheet: &[u8], n: usize, list: &mut [Span])
     requires { ⌜ (n ≤ length (cuttingLines (now sheet) (now file))) × (n ≤ length (now list)) ⌝ }
     ensures { λ _. ⌜ now (list .exit)
         ≡ fill (take n (cuttingLines (now (sheet .entry)) (now (file .entry)))) (now (list .entry)) ⌝ }
 {
     let table = table_of(file, sheet);
-    fill_by_table(file, sheet, &table, n, list);
+    let boxes = boxes_of(sheet);
+    fill_by_table(file, sheet, &table, &boxes, n, list);
 }
 
 // How many points a sheet keeps of a file that passes.
@@ -56,7 +78,8 @@ fn points_kept(file: &[u8], sheet: &[u8]) -> usize
         → r ≡ length (publicOf (now (sheet .entry)) (now (file .entry)) .points)) ⌝ }
 {
     let table = crate::table_for(file, sheet);
-    crate::count_kept(file, &table)
+    let boxes = boxes::boxes_of(sheet);
+    crate::count_kept(file, &table, &boxes)
 }
 
 // What a cutting list answers for a list of so many lines.

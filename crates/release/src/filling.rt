@@ -2,6 +2,7 @@
 ghost use mathlib.Core.Path.{_≡_};
 ghost use mathlib.Core.Bool.{Bool};
 ghost use mathlib.Core.List.{List};
+ghost use lib.IntN.{ℤ};
 ghost use Prim.Native.Nat.{_+_, _<_};
 ghost use Rattle.fields.specs.Bytes.{Bytes};
 ghost use Rattle.release.specs.Filling.{Ready, withLine, HasLine, Begun, Looked};
@@ -10,7 +11,7 @@ use crate::vlrs;
 use fields::slices;
 use lasfile::header;
 use lasfile::vlr;
-use sheet::class_table;
+use sheet::boxes;
 
 // Where the filling of a list stands: line k comes next, and `more` says that k is less than n, the lines to fill.
 // Still to look at are `records` records from `record_at` on, and then `points` points from `point_at` on. At hand is
@@ -72,7 +73,8 @@ pub(crate) fn first_line(file: &[u8], n: usize) -> Filling
 // Behind the record at hand: k goes up where it is kept.
 fn past_record(file: &[u8], sheet: &[u8], t: Filling) -> Filling
     requires { ⌜ Ready (now file) t × HasLine (now file) t × (0 < t .records) ⌝ }
-    ensures { λ r. ⌜ ((table : List Bool) → Looked (now (sheet .entry)) table (now (file .entry)) t r) ⌝ }
+    ensures { λ r. ⌜
+        ((table : List Bool) (boxes : List ℤ) → Looked (now (sheet .entry)) table boxes (now (file .entry)) t r) ⌝ }
 {
     let vlr = slices::part_at(file, t.record_at, file.len());
     let mut u = t;
@@ -82,27 +84,34 @@ fn past_record(file: &[u8], sheet: &[u8], t: Filling) -> Filling
     u
 }
 
-// Behind the point at hand, with no branch on whether it is kept.
-fn past_point(file: &[u8], table: &[bool; 256], t: Filling) -> Filling
+// Behind the point at hand, with no branch on whether it is kept, where there is no box.
+fn past_point(file: &[u8], table: &[bool; 256], boxes: &[i32; 385], t: Filling) -> Filling
     requires { ⌜ Ready (now file) t × HasLine (now file) t × (t .records ≡ 0) × (0 < t .points) ⌝ }
-    ensures { λ r. ⌜ ((sheet : Bytes) → Looked sheet (now (table .entry)) (now (file .entry)) t r) ⌝ }
+    ensures { λ r. ⌜
+        ((sheet : Bytes) → Looked sheet (now (table .entry)) (now (boxes .entry)) (now (file .entry)) t r) ⌝ }
 {
     let point = slices::part_at(file, t.point_at, t.record_length);
     let mut u = t;
-    u.k = t.k + one_if(class_table::in_table(table, t.format, point));
+    u.k = t.k + one_if(boxes::keeps_by(table, boxes, t.format, point));
     u.points = t.points - 1;
     u.point_at = t.point_at + t.record_length;
     u
 }
 
 // Behind the thing at hand, and at the next. There is one as long as a line is still to fill.
-pub(crate) fn next_line(file: &[u8], sheet: &[u8], table: &[bool; 256], t: Filling) -> Filling
+pub(crate) fn next_line(
+    file: &[u8],
+    sheet: &[u8],
+    table: &[bool; 256],
+    boxes: &[i32; 385],
+    t: Filling,
+) -> Filling
     requires { ⌜ Ready (now file) t × HasLine (now file) t × (0 < t .records + t .points) ⌝ }
-    ensures { λ r. ⌜ Looked (now (sheet .entry)) (now (table .entry)) (now (file .entry)) t r
+    ensures { λ r. ⌜ Looked (now (sheet .entry)) (now (table .entry)) (now (boxes .entry)) (now (file .entry)) t r
         × HasLine (now (file .entry)) r ⌝ }
 {
     if 0 < t.records {
         return with_line(file, past_record(file, sheet, t));
     }
-    with_line(file, past_point(file, table, t))
+    with_line(file, past_point(file, table, boxes, t))
 }

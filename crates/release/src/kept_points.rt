@@ -1,11 +1,15 @@
-// The points of a run that a table keeps: where they stand, and how many they are.
+// The points of a run that a table and boxes keep: where they stand, and how many they are.
 // No loop over points branches on whether one is kept, since no processor can guess which way it goes.
 ghost use mathlib.Core.Path.{_≡_};
 ghost use mathlib.Core.Bool.{cond};
 ghost use Prim.Native.Nat.{_*_, _≤_};
 ghost use lib.ListN.{length, take};
+ghost use Rattle.fields.specs.Lists.{kept};
+ghost use Rattle.sheet.specs.Keeping.{inTable};
+ghost use Rattle.sheet.specs.Boxes.{inBoxes, keepsBy};
 ghost use Rattle.release.specs.KeptPoints.{keptPoints, keptOf, picked, Places};
 use points::raw;
+use sheet::boxes;
 use sheet::class_table;
 
 // What a point or a record counts. The compiler makes no branch of it.
@@ -15,9 +19,9 @@ pub(crate) fn one_if(keep: bool) -> usize
     if keep { 1 } else { 0 }
 }
 
-// Puts the places of the kept records among the first n of a block into `chosen`, in order, and says how many they are.
-// Each place is put behind those chosen before, and stays there only where its record is kept.
-pub(crate) fn choose(
+// Puts the places of those records among the first n of a block that the table keeps into `chosen`, in order, and says
+// how many they are. Each place is put behind those chosen before, and stays there only where its record is kept.
+fn choose_by_table(
     block: &[u8],
     format: u8,
     record_length: usize,
@@ -29,7 +33,7 @@ pub(crate) fn choose(
         (n ≤ 64) × (n ≤ length (now chosen)) × (n * «record_length» ≤ length (now block)) ⌝ }
     ensures { λ r. ⌜ (r ≤ n)
         × (picked «record_length» (now (block .entry)) (take r (now (chosen .exit)))
-        ≡ keptOf (now (table .entry)) format n «record_length» (now (block .entry)))
+        ≡ keptOf (inTable (now (table .entry)) format) n «record_length» (now (block .entry)))
         × Places «record_length» (now (block .entry)) (take r (now (chosen .exit))) ⌝ }
 {
     let mut at = 0;
@@ -45,6 +49,62 @@ pub(crate) fn choose(
     k
 }
 
+// Leaves of the first k chosen places those whose records lie in a box, in order at the front, and says how many they
+// are. Each place is put behind those that stay, and stays there only where its record lies in one.
+fn choose_in_boxes(
+    block: &[u8],
+    record_length: usize,
+    boxes: &[i32; 385],
+    k: usize,
+    chosen: &mut [usize],
+) -> usize
+    requires { ⌜ (k ≤ 64)
+        × (k ≤ length (now chosen))
+        × Places «record_length» (now block) (take k (now chosen)) ⌝ }
+    ensures { λ r. ⌜ (r ≤ k)
+        × (picked «record_length» (now (block .entry)) (take r (now (chosen .exit)))
+        ≡ kept (inBoxes (now (boxes .entry)))
+        (picked «record_length» (now (block .entry)) (take k (now (chosen .entry)))))
+        × Places «record_length» (now (block .entry)) (take r (now (chosen .exit))) ⌝ }
+{
+    let mut m = 0;
+    let mut j = 0;
+    while j < k {
+        let at = chosen[j];
+        let end = at + record_length;
+        chosen[m] = at;
+        m += one_if(boxes::in_boxes(boxes, &block[at..end]));
+        j += 1;
+    }
+    m
+}
+
+// Puts the places of the kept records among the first n of a block into `chosen`, in order, and says how many they are.
+// Boxes are asked only of the records that the table keeps.
+pub(crate) fn choose(
+    block: &[u8],
+    format: u8,
+    record_length: usize,
+    n: usize,
+    table: &[bool; 256],
+    boxes: &[i32; 385],
+    chosen: &mut [usize],
+) -> usize
+    requires { ⌜
+        (n ≤ 64) × (n ≤ length (now chosen)) × (n * «record_length» ≤ length (now block)) ⌝ }
+    ensures { λ r. ⌜ (r ≤ n)
+        × (picked «record_length» (now (block .entry)) (take r (now (chosen .exit)))
+        ≡ keptOf (keepsBy (now (table .entry)) (now (boxes .entry)) format) n «record_length»
+        (now (block .entry)))
+        × Places «record_length» (now (block .entry)) (take r (now (chosen .exit))) ⌝ }
+{
+    let k = choose_by_table(block, format, record_length, n, table, chosen);
+    if boxes::no_box(boxes) {
+        return k;
+    }
+    choose_in_boxes(block, record_length, boxes, k, chosen)
+}
+
 // Counts the kept points of a run that holds them all.
 fn count_run(
     run: &[u8],
@@ -52,35 +112,41 @@ fn count_run(
     record_length: usize,
     count: usize,
     table: &[bool; 256],
+    boxes: &[i32; 385],
 ) -> usize
     requires { ⌜ count * «record_length» ≤ length (now run) ⌝ }
-    ensures { λ r. ⌜ r ≡ length (keptOf (now (table .entry)) format count «record_length» (now (run .entry))) ⌝ }
+    ensures { λ r. ⌜ r
+        ≡ length (keptOf (keepsBy (now (table .entry)) (now (boxes .entry)) format) count «record_length»
+        (now (run .entry))) ⌝ }
 {
     let mut at = 0;
     let mut n = 0;
     let mut left = count;
     while 0 < left {
         let next = at + record_length;
-        n += one_if(class_table::in_table(table, format, &run[at..next]));
+        n += one_if(boxes::keeps_by(table, boxes, format, &run[at..next]));
         at = next;
         left -= 1;
     }
     n
 }
 
-// How many of the first `count` records of `run`, `record_length` bytes each, the table keeps; none where the run does
-// not hold them.
+// How many of the first `count` records of `run`, `record_length` bytes each, table and boxes keep; none where the run
+// does not hold them.
 pub(crate) fn count_points(
     run: &[u8],
     format: u8,
     record_length: usize,
     count: usize,
     table: &[bool; 256],
+    boxes: &[i32; 385],
 ) -> usize
-    ensures { λ r. ⌜ r ≡ length (keptPoints (now (table .entry)) format count «record_length» (now (run .entry))) ⌝ }
+    ensures { λ r. ⌜ r
+        ≡ length (keptPoints (keepsBy (now (table .entry)) (now (boxes .entry)) format) count «record_length»
+        (now (run .entry))) ⌝ }
 {
     if raw::holds(run.len(), record_length, count) {
-        count_run(run, format, record_length, count, table)
+        count_run(run, format, record_length, count, table, boxes)
     } else {
         0
     }

@@ -22,25 +22,32 @@ use fields::Verdict;
 use fields::slices;
 use lasfile::header;
 use publicpart::Answer;
+use sheet::boxes;
 use sheet::class_table;
 
-// How many points of a file a table keeps.
-pub(crate) fn count_kept(file: &[u8], table: &[bool; 256]) -> usize
-    ensures { λ r. ⌜ r ≡ length (keptIn (now (table .entry)) (now (file .entry))) ⌝ }
+// How many points of a file a table and boxes keep.
+pub(crate) fn count_kept(file: &[u8], table: &[bool; 256], boxes: &[i32; 385]) -> usize
+    ensures { λ r. ⌜ r ≡ length (keptIn (now (table .entry)) (now (boxes .entry)) (now (file .entry))) ⌝ }
 {
     let offset = header::point_offset(file);
     let format = header::format(file);
     let record_length = header::record_length(file);
     let count = header::point_count(file);
     let run = slices::part_at(file, offset, file.len());
-    kept_points::count_points(run, format, record_length, count, table)
+    kept_points::count_points(run, format, record_length, count, table, boxes)
 }
 
 // The room that is asked of an output for points from `start` on. One with room for all the points of the file is asked
 // for that much, and the kept ones are not counted: their number comes out of the writing.
-fn room_for(file: &[u8], table: &[bool; 256], start: usize, room: usize) -> usize
+fn room_for(
+    file: &[u8],
+    table: &[bool; 256],
+    boxes: &[i32; 385],
+    start: usize,
+    room: usize,
+) -> usize
     requires { ⌜ start + pointCount (now file) * recordLength (now file) < 2 ^ 64 ⌝ }
-    ensures { λ r. ⌜ r ≡ roomAsked (now (table .entry)) (now (file .entry)) start room ⌝ }
+    ensures { λ r. ⌜ r ≡ roomAsked (now (table .entry)) (now (boxes .entry)) (now (file .entry)) start room ⌝ }
 {
     let record_length = header::record_length(file);
     let count = header::point_count(file);
@@ -48,10 +55,10 @@ fn room_for(file: &[u8], table: &[bool; 256], start: usize, room: usize) -> usiz
     if most <= room {
         return most;
     }
-    start + count_kept(file, table) * record_length
+    start + count_kept(file, table, boxes) * record_length
 }
 
-// Which points of a file's format a sheet keeps.
+// Which points of a file's format a sheet keeps, wherever they lie.
 pub(crate) fn table_for(file: &[u8], sheet: &[u8]) -> [bool; 256]
     ensures { λ r. ⌜ TableOf (now (sheet .entry)) (format (now (file .entry))) r ⌝ }
 {
@@ -72,13 +79,14 @@ pub fn release(file: &[u8], sheet: &[u8], out: &mut [u8]) -> Answer
     }
     let kept = vlrs::measure(file, sheet);
     let table = table_for(file, sheet);
+    let boxes = boxes::boxes_of(sheet);
     let records = kept.count;
     let start = kept.end;
-    let needed = room_for(file, &table, start, out.len());
+    let needed = room_for(file, &table, &boxes, start, out.len());
     if out.len() < needed {
         return Answer::Short(needed);
     }
-    let points = assembly::write(file, sheet, &table, records, start, out);
+    let points = assembly::write(file, sheet, &table, &boxes, records, start, out);
     let length = start + points * header::record_length(file);
     Answer::Released(length, points, records)
 }

@@ -1,2 +1,3 @@
 pub mod LineLaws
 pub mod FirstLaws
+pub mod PlaceLaws

@@ -39,6 +39,15 @@ lines-end zero s k = refl
 lines-end (suc n) [] k = refl
 lines-end (suc n) (b ∷ bs) k = absurd (not-suc-le-zero k)
 
+pub length-linesFrom : (n : ℕ) (s : Bytes) → length (linesFrom n s) ≤ n
+unfolding linesFrom
+length-linesFrom zero s = omega arith
+length-linesFrom (suc n) [] = omega arith
+length-linesFrom (suc n) (b ∷ bs) = omega (arith, length-linesFrom n (afterLine (b ∷ bs)))
+
+pub at-most-64 : (s : Bytes) → length (lines s) ≤ 64
+at-most-64 s = rw (lines-from s) (length-linesFrom 64 s)
+
 -- ---- their checks
 
 pub verdict-from : (s : Bytes) → sheetVerdict s ≡ linesVerdict 64 s

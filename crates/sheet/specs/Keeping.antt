@@ -1,13 +1,15 @@
--- What a keep sheet keeps: classes, points and records; and the class test.
+-- What a keep sheet keeps: classes, places, points and records; and the class test.
 -- Assumes nothing.
 use Prim.Native.Nat.{ℕ, suc, _<_}
-use mathlib.Core.Bool.{Bool, _&&_, not, true, false}
+use mathlib.Core.Bool.{Bool, _&&_, _||_, not, true, false}
 use lib.Dec.{leb, eqb}
+use lib.IntN.{ℤ}
+use lib.Signed.{leZ}
 use Rattle.fields.specs.Lists.{anyOf}
 use Rattle.fields.specs.Bytes.{Bytes, same}
-use Rattle.points.specs.Raw.{classIn, withheldIn, classByte, classOf, withheldOf}
+use Rattle.points.specs.Raw.{classIn, withheldIn, classByte, classOf, withheldOf, stored}
 use Rattle.fields.specs.Text.{cut}
-use Rattle.sheet.specs.Sheet.{kind, lowest, highest, userID, recordID, lines, sheetVerdict}
+use Rattle.sheet.specs.Sheet.{kind, lowest, highest, userID, recordID, low, high, onEveryAxis, lines, sheetVerdict}
 use Rattle.fields.specs.declared.Verdict.{Verdict}
 use Rattle.fields.specs.declared.Verdict.the-variants.{Passes, Fails}
 use Rattle.sheet.specs.declared.answers.Kept.{Kept}
@@ -28,12 +30,33 @@ containsClass l c = eqb (kind l) 1 && (leb (lowest l) c && leb c (highest l))
 unfoldable pub namesRecord : Bytes → Bytes → ℕ → Bool
 namesRecord l user id = eqb (kind l) 2 && (same (userID l) user && eqb (recordID l) id)
 
+-- whether a stored value is from low to high, both included
+unfoldable pub inRange : ℤ → ℤ → ℤ → Bool
+inRange from to z = leZ from z && leZ z to
+
+unfoldable pub isBox : Bytes → Bool
+isBox l = eqb (kind l) 3
+
+-- a point by its bytes: on every axis its stored value is from the box's low to its high, edges included
+unfoldable pub inBox : Bytes → Bytes → Bool
+inBox l p = onEveryAxis (λ axis. inRange (low axis l) (high axis l) (stored axis p))
+
+unfoldable pub containsPoint : Bytes → Bytes → Bool
+containsPoint l p = isBox l && inBox l p
+
 unfoldable pub keepsClass : Bytes → ℕ → Bool
 keepsClass sheet c = anyOf (λ l. containsClass l c) (lines sheet)
 
--- a point by its format and bytes: its class is kept, and it is not withheld
+unfoldable pub hasBox : Bytes → Bool
+hasBox sheet = anyOf isBox (lines sheet)
+
+-- where any box stands, a point lies in one of them
+unfoldable pub keepsPlace : Bytes → Bytes → Bool
+keepsPlace sheet p = not (hasBox sheet) || anyOf (λ l. containsPoint l p) (lines sheet)
+
+-- a point by its format and bytes: its class is kept, it is not withheld, and its place is kept
 unfoldable pub keepsPoint : Bytes → ℕ → Bytes → Bool
-keepsPoint sheet f p = keepsClass sheet (classOf f p) && not (withheldOf f p)
+keepsPoint sheet f p = keepsClass sheet (classOf f p) && (not (withheldOf f p) && keepsPlace sheet p)
 
 unfoldable pub keepsRecord : Bytes → Bytes → ℕ → Bool
 keepsRecord sheet user id = anyOf (λ l. namesRecord l user id) (lines sheet)
@@ -81,7 +104,7 @@ classTest sheet c = testedUnder (sheetVerdict sheet) (keepsClass sheet c) (lines
 
 -- ---- a table by the classification byte, which a release makes once
 
--- a point by its format and classification byte
+-- a point by its format and classification byte, wherever it lies
 unfoldable pub keepsByte : Bytes → ℕ → ℕ → Bool
 keepsByte sheet f b = keepsClass sheet (classIn f b) && not (withheldIn f b)
 
@@ -89,7 +112,7 @@ keepsByte sheet f b = keepsClass sheet (classIn f b) && not (withheldIn f b)
 abbrev pub TableOf : Bytes → ℕ → List Bool → Type 0
 TableOf sheet f table = (b : ℕ) → b < 256 → getD table b false ≡ keepsByte sheet f b
 
--- whether a table keeps a point, by its format and bytes
+-- whether a table keeps a point, by its format and bytes, wherever it lies
 unfoldable pub inTable : List Bool → ℕ → Bytes → Bool
 inTable table f p = getD table (classByte f p) false
 

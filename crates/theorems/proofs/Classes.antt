@@ -46,19 +46,27 @@ none-in sheet f out h =
 
 -- ---- nor shows in what does
 
-same-public-part : (sheet f g : Bytes) → carriedOf f ≡ carriedOf g → contents f .records ≡ contents g .records
-    → notWithheld f ≡ notWithheld g → publicOf sheet f ≡ publicOf sheet g
-same-public-part sheet f g c r w =
+format-same : (f g : Bytes) → carriedOf f ≡ carriedOf g → format f ≡ format g
+format-same f g c = sym (carried-format f) ∙ ap (λ (k : Carried). k .format) c ∙ carried-format g
+
+-- of files with the same carried fields and records of whose points the same are kept
+pub same-part : (sheet f g : Bytes) → carriedOf f ≡ carriedOf g → contents f .records ≡ contents g .records
+    → kept (keepsPoint sheet (format f)) (contents f .points) ≡ kept (keepsPoint sheet (format f)) (contents g .points)
+    → publicOf sheet f ≡ publicOf sheet g
+same-part sheet f g c r h =
     let carried : publicOf sheet f .carried ≡ publicOf sheet g .carried = public-carried sheet f ∙ c ∙ sym (public-carried sheet g) in
     let records : publicOf sheet f .records ≡ publicOf sheet g .records =
     public-records sheet f ∙ ap (kept (sheetKeeps sheet)) r ∙ sym (public-records sheet g) in
-    let same : format f ≡ format g = sym (carried-format f) ∙ ap (λ (k : Carried). k .format) c ∙ carried-format g in
     let points : publicOf sheet f .points ≡ publicOf sheet g .points =
-    public-points sheet f
-    ∙ laws.kept-by-class sheet (format f) (contents f .points)
-    ∙ rw (w, same) (sym (laws.kept-by-class sheet (format g) (contents g .points)))
-    ∙ sym (public-points sheet g) in
+    public-points sheet f ∙ h ∙ rw (format-same f g c) (sym (public-points sheet g)) in
     λ i. record { carried = carried i; records = records i; points = points i }
+
+same-public-part : (sheet f g : Bytes) → carriedOf f ≡ carriedOf g → contents f .records ≡ contents g .records
+    → notWithheld f ≡ notWithheld g → publicOf sheet f ≡ publicOf sheet g
+same-public-part sheet f g c r w =
+    same-part sheet f g c r
+    (laws.kept-by-class sheet (format f) (contents f .points)
+    ∙ rw (w, format-same f g c) (sym (laws.kept-by-class sheet (format g) (contents g .points))))
 
 pub none-withheld : NoneWithheld
 none-withheld =

@@ -35,7 +35,7 @@ use Rattle.reader.specs.Header as header
 use Rattle.reader.specs.Header.{headerRead}
 use Rattle.reader.specs.Steps.{recordIf, stepOf}
 use Rattle.reader.specs.OnePoint.{pointIf, pointAtOf}
-use Rattle.sheet.specs.Keeping.{keptUnder, keepsClass, keepsRecord, containsClass, unless, upToFirst, linesFor, testedUnder, classTest}
+use Rattle.sheet.specs.Keeping.{keptUnder, keepsClass, keepsPlace, keepsRecord, containsClass, unless, upToFirst, linesFor, testedUnder, classTest}
 use Rattle.sheet.specs.declared.answers.Tested.the-variants as tested
 use Rattle.fields.specs.Text.{cut}
 use Rattle.geokeys.specs.GeoKeys.{first, orLater, isProjection, projectionPlace, answerIf, payloadIn, directoryOf, directoryVerdict, searchVerdict, lookup}
@@ -431,7 +431,6 @@ sheets-met =
       whole = lines-are .whole sheet3 sheet-passes9;
       class = kept-by-lines .class sheet3 2 .0 (unfold computed in refl);
       entry = kept-by-lines .entry sheetA7 (0x41 ∷ []) 7 .0 (unfold computed in refl);
-      by-lines = kept-by-lines .by-lines sheet64 (sheet64 ++ 0x4B ∷ []) (unfold computed in refl) .0;
     }
 
 -- what the class test gives, by computing
@@ -677,6 +676,7 @@ pub record ComputedClasses : Type 0 where
   pub parts : (classOf 0 (point7 66) ≡ 2) × (syntheticOf 0 (point7 66) ≡ false) × (keyPointOf 0 (point7 66) ≡ true)
       × (withheldOf 0 (point7 66) ≡ false)
   pub class-2 : keepsClass sheet3 2 ≡ true
+  pub anywhere : (keepsPlace sheet3 (point7 66) ≡ true) × (keepsPlace sheet3 (point7 34) ≡ true)
   pub synthetic : (classOf 0 (point7 34) ≡ 2) × (withheldOf 0 (point7 34) ≡ false)
   pub withheld : withheldOf 0 (point7 130) ≡ true
   pub carried : carriedOf (second9 130) ≡ carriedOf first9
@@ -692,6 +692,7 @@ computed-classes =
     record {
       parts = (refl, refl, refl, refl);
       class-2 = refl;
+      anywhere = (refl, refl);
       synthetic = (refl, refl);
       withheld = refl;
       carried = refl;
@@ -712,18 +713,28 @@ same-to-31 : (c : ℕ) → c ≤ 31 → keepsClass (from 20 200) c ≡ keepsClas
 unfolding computed
 same-to-31 c h = rw (le-leb c 200 (omega arith), le-leb c 31 h)
 
+-- without a box every place is kept
+unboxed : (low high : ℕ) (p : Bytes) → keepsPlace (from low high) p ≡ true
+unfolding computed
+unboxed low high p = refl
+
+unboxed-empty : (p : Bytes) → keepsPlace [] p ≡ true
+unfolding computed
+unboxed-empty p = refl
+
 pub classes-met : ClassesMet
 classes-met =
     record {
       joined = classified .joined 0 (point7 66) key-point-bytes ∙ rw (is .parts .0, is .parts .1, is .parts .2, is .parts .3);
       to-31 = classified .to-31 0 (point7 255);
-      key-point-kept = kept-by-class .exactly sheet3 0 (point7 66) .1 (rw (is .parts .0) (is .class-2), is .parts .3);
+      key-point-kept = kept-by-class .exactly sheet3 0 (point7 66) .1 (rw (is .parts .0) (is .class-2), is .parts .3, is .anywhere .0);
       synthetic-kept =
-          kept-by-class .other-flags sheet3 0 (point7 34) (point7 66) (is .synthetic .0 ∙ sym (is .parts .0)) (is .synthetic .1 ∙ sym (is .parts .3));
+          kept-by-class .other-flags sheet3 0 (point7 34) (point7 66) (is .synthetic .0 ∙ sym (is .parts .0)) (is .synthetic .1 ∙ sym (is .parts .3))
+          (is .anywhere .1 ∙ sym (is .anywhere .0));
       withheld-stays = kept-by-class .never-withheld sheet3 0 (point7 130) (is .withheld);
       withheld-stays-always = kept-by-class .never-withheld (from 0 255) 0 (point7 130) (is .withheld);
-      above-31 = kept-by-class .above-31 (from 66 66) [] none-to-31;
-      across-31 = kept-by-class .above-31 (from 20 200) (from 20 31) same-to-31;
+      above-31 = kept-by-class .above-31 (from 66 66) [] none-to-31 (λ p. unboxed 66 66 p ∙ sym (unboxed-empty p));
+      across-31 = kept-by-class .above-31 (from 20 200) (from 20 31) same-to-31 (λ p. unboxed 20 200 p ∙ sym (unboxed 20 31 p));
       none-goes-out = none-withheld .none-goes-out sheet3 file9 (filled 7) 255 1 0 accepted9;
       files-differ = λ e. omega (arith, ap pointCount e, is .counts .0, is .counts .1);
       same-public-part = same-part9;

@@ -25,3 +25,4 @@ pub mod capi
 pub mod Instances
 pub mod ListInstances
 pub mod HalvingInstances
+pub mod BoxInstances

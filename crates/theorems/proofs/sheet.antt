@@ -1,3 +1,5 @@
 pub mod SheetLaws
 pub mod KeepingLaws
 pub mod TestLaws
+pub mod OrderLaws
+pub mod BoxTheorems

@@ -51,8 +51,9 @@ pub record LinesLookedAt : Type 0 where
   -- of a sheet that passes, the class is held exactly if some line contains it
   pub some-line : (sheet : Bytes) (c : ℕ) → sheetVerdict sheet ≡ Passes
       → (classTest sheet c ≡ Held (linesFor sheet c)) ↔ SomeLine (lines sheet) (λ l. containsClass l c ≡ true)
-  -- a line of kind 2 never does
+  -- a line of kind 2 or 3 never does
   pub never-kind-2 : (l : Bytes) (c : ℕ) → kind l ≡ 2 → containsClass l c ≡ false
+  pub never-kind-3 : (l : Bytes) (c : ℕ) → kind l ≡ 3 → containsClass l c ≡ false
 
 -- what the class test says, without the number of lines
 unfoldable pub withoutLines : Tested → Kept

@@ -10,7 +10,7 @@ use mir.Val.{boolByte}
 use Rattle.fields.specs.Lists.{All, kept}
 use Rattle.fields.specs.Bytes.{Bytes, AllBytes}
 use Rattle.points.specs.Raw.{classByte, classOf, syntheticOf, keyPointOf, withheldOf}
-use Rattle.sheet.specs.Keeping.{keepsClass, keepsPoint}
+use Rattle.sheet.specs.Keeping.{keepsClass, keepsPlace, keepsPoint}
 use Rattle.lasfile.specs.HeaderFields.{format}
 use Rattle.publicpart.specs.Public.{carriedOf, contents, publicOf}
 use Rattle.theorems.specs.Terms.{Accepted, OfOutput}
@@ -24,16 +24,20 @@ pub record Classified : Type 0 where
       ≡ classOf f p + 32 * boolByte (syntheticOf f p) + 64 * boolByte (keyPointOf f p) + 128 * boolByte (withheldOf f p)
 
 pub record KeptByClass : Type 0 where
-  -- a point is kept exactly if its class is kept and it is not withheld
+  -- a point is kept exactly if its class is kept, it is not withheld, and its place is kept
   pub exactly : (sheet : Bytes) (f : ℕ) (p : Bytes)
-      → (keepsPoint sheet f p ≡ true) ↔ ((keepsClass sheet (classOf f p) ≡ true) × (withheldOf f p ≡ false))
+      → (keepsPoint sheet f p ≡ true)
+      ↔ ((keepsClass sheet (classOf f p) ≡ true) × (withheldOf f p ≡ false) × (keepsPlace sheet p ≡ true))
   -- a withheld point is never kept, whatever the sheet says
   pub never-withheld : (sheet : Bytes) (f : ℕ) (p : Bytes) → withheldOf f p ≡ true → keepsPoint sheet f p ≡ false
-  -- of two points of one class, both withheld or neither, both are kept or neither, whatever their other flags are
+  -- of two points of one class, both withheld or neither, and both in a place that is kept or neither, both are kept or
+  -- neither, whatever their other flags are
   pub other-flags : (sheet : Bytes) (f : ℕ) (p q : Bytes) → classOf f p ≡ classOf f q → withheldOf f p ≡ withheldOf f q
+      → keepsPlace sheet p ≡ keepsPlace sheet q
       → keepsPoint sheet f p ≡ keepsPoint sheet f q
   -- what a sheet says of classes above 31 does not matter to points
   pub above-31 : (s t : Bytes) → ((c : ℕ) → c ≤ 31 → keepsClass s c ≡ keepsClass t c)
+      → ((p : Bytes) → keepsPlace s p ≡ keepsPlace t p)
       → (f : ℕ) (p : Bytes) → keepsPoint s f p ≡ keepsPoint t f p
 
 -- the points of a file that are not withheld, in order

@@ -395,8 +395,6 @@ pub record SheetsMet : Type 0 where
   pub class : SomeLine (lines sheet3) (λ l. (kind l ≡ 1) × (lowest l ≤ 2) × (2 ≤ highest l))
   -- some line keeps the record
   pub entry : SomeLine (lines sheetA7) (λ l. (kind l ≡ 2) × (userID l ≡ 0x41 ∷ []) × (recordID l ≡ 7))
-  -- a 65th line keeps nothing
-  pub by-lines : (c : ℕ) → keepsClass sheet64 c ≡ keepsClass (sheet64 ++ 0x4B ∷ []) c
 
 pub record ClassTestsMet : Type 0 where
   -- of a line for a record and two for class 2, the second answers for class 2

@@ -10,6 +10,7 @@ pub mod BoundsOfKept
 pub mod Sheets
 pub mod Classes
 pub mod ClassTests
+pub mod Boxes
 pub mod Halving
 pub mod CuttingList
 pub mod ByList
@@ -23,3 +24,4 @@ pub mod Samples
 pub mod Instances
 pub mod ListInstances
 pub mod HalvingInstances
+pub mod BoxInstances

@@ -1,4 +1,5 @@
--- What is proved of a keep sheet: its lines are the whole of it, and it keeps what some line says.
+-- What is proved of a keep sheet: its lines are the whole of it, it keeps what some line says, and neither their order
+-- nor how often one stands there matters.
 -- Assumes nothing.
 use mathlib.Core.Path.{_≡_}
 use mathlib.Core.Logic.{_↔_}
@@ -9,7 +10,9 @@ use lib.ListN.{length, replicate}
 use Rattle.fields.specs.declared.Verdict.the-variants.{Passes, Fails}
 use Rattle.fields.specs.Bytes.{Bytes, join}
 use Rattle.sheet.specs.Sheet.{kind, lowest, highest, userID, recordID, lines, sheetVerdict}
-use Rattle.sheet.specs.Keeping.{keepsClass, keepsRecord}
+use Rattle.sheet.specs.Keeping.{keepsClass, keepsPlace, keepsPoint, keepsRecord}
+use Rattle.publicpart.specs.Public.{publicOf}
+use Rattle.publicpart.specs.Release.{release}
 
 -- ---- lines
 
@@ -45,11 +48,29 @@ pub record KeptByLines : Type 0 where
   pub entry : (sheet user : Bytes) (id : ℕ)
       → (keepsRecord sheet user id ≡ true)
       ↔ SomeLine (lines sheet) (λ l. (kind l ≡ 2) × (userID l ≡ user) × (recordID l ≡ id))
-  -- what is kept depends on the lines alone
-  pub by-lines : (s t : Bytes) → lines s ≡ lines t
-      → ((c : ℕ) → keepsClass s c ≡ keepsClass t c)
-      × ((user : Bytes) (id : ℕ) → keepsRecord s user id ≡ keepsRecord t user id)
   -- the empty sheet is good and keeps nothing
   pub empty : (sheetVerdict [] ≡ Passes)
       × ((c : ℕ) → keepsClass [] c ≡ false)
       × ((user : Bytes) (id : ℕ) → keepsRecord [] user id ≡ false)
+
+-- ---- in whatever order
+
+-- the same lines, in any order and any number of times
+abbrev pub SameLines : Bytes → Bytes → Type 0
+SameLines s t = (l : Bytes) → List·Memᴰ l (lines s) ↔ List·Memᴰ l (lines t)
+
+-- two sheets keep the same classes, records, places and points
+pub record KeepAlike (s t : Bytes) : Type 0 where
+  pub class : (c : ℕ) → keepsClass s c ≡ keepsClass t c
+  pub entry : (user : Bytes) (id : ℕ) → keepsRecord s user id ≡ keepsRecord t user id
+  pub place : (p : Bytes) → keepsPlace s p ≡ keepsPlace t p
+  pub point : (f : ℕ) (p : Bytes) → keepsPoint s f p ≡ keepsPoint t f p
+
+pub record AnyOrder : Type 0 where
+  -- what is kept depends on the set of lines
+  pub keeps : (s t : Bytes) → SameLines s t → KeepAlike s t
+  -- and so does the public part of every file
+  pub public-part : (s t f : Bytes) → SameLines s t → publicOf s f ≡ publicOf t f
+  -- and what a release writes and returns, where both sheets pass
+  pub released : (s t f a : Bytes) → SameLines s t → sheetVerdict s ≡ Passes → sheetVerdict t ≡ Passes
+      → release s f a ≡ release t f a

@@ -27,6 +27,7 @@ pub fn class_test(sheet: &[u8], class: u8) -> Result<ClassLine, Refusal> {
 #[cfg(test)]
 mod tests {
     use super::*;
+    use crate::sample::box_line;
     use crate::sheet::class_kept;
 
     /// A line for records; every byte behind the mark is 2, also those where a line for classes has its range.
@@ -78,6 +79,20 @@ mod tests {
     }
 
     #[test]
+    fn boxes_are_counted_and_hold_no_class() {
+        // The values 2 stand where a line for classes has its range.
+        let twos = box_line([0x0202_0202; 3], [0x0202_0202; 3]);
+        let between = [twos.as_slice(), &RECORD, &classes(2, 2), &twos].concat();
+        assert_eq!(class_test(&between, 2), held_by(3));
+        assert_eq!(class_test(&between, 3), held_by_none_of(4));
+        assert_eq!(class_test(&twos.repeat(64), 2), held_by_none_of(64));
+        let whole = box_line([i32::MIN; 3], [i32::MAX; 3]);
+        for class in 0..=255 {
+            assert_eq!(class_test(&whole, class), held_by_none_of(1), "{class}");
+        }
+    }
+
+    #[test]
     fn the_empty_sheet_has_no_line_to_look_at() {
         for class in 0..=255 {
             assert_eq!(class_test(&[], class), held_by_none_of(0), "{class}");
@@ -97,10 +112,14 @@ mod tests {
     fn a_fault_behind_the_line_that_answers_is_given() {
         for (fault, refusal) in [
             (b"KT\x01".as_slice(), Refusal::WrongMark),
-            (b"KS\x03", Refusal::UnknownKind),
+            (b"KS\x04", Refusal::UnknownKind),
+            (b"KS\x00", Refusal::UnknownKind),
             (b"KS", Refusal::LineCut),
             (b"KS\x01\x02", Refusal::LineCut),
             (&RECORD[..20], Refusal::LineCut),
+            (b"KS\x03", Refusal::LineCut),
+            (&box_line([1; 3], [0; 3])[..26], Refusal::LineCut),
+            (&box_line([0, 0, 1], [0; 3]), Refusal::ReversedRange),
             (&classes(3, 2), Refusal::ReversedRange),
             (&classes(2, 2).repeat(64), Refusal::TooManyLines),
         ] {
@@ -137,7 +156,15 @@ mod tests {
     fn the_answer_agrees_with_class_kept() {
         let sheet = [classes(40, 50).as_slice(), &RECORD, &classes(2, 2)].concat();
         let cut_short = &sheet[..sheet.len() - 1];
-        for sheet in [&[], sheet.as_slice(), &classes(0, 255), &RECORD, cut_short] {
+        let boxed = [box_line([0; 3], [9; 3]), sheet.clone()].concat();
+        for sheet in [
+            &[],
+            sheet.as_slice(),
+            &classes(0, 255),
+            &RECORD,
+            cut_short,
+            &boxed,
+        ] {
             for class in 0..=255 {
                 let kept = class_test(sheet, class).map(|answer| answer.kept);
                 assert_eq!(kept, class_kept(sheet, class), "{class} of {sheet:?}");

@@ -3,9 +3,8 @@
 use std::ops::Range;
 
 use crate::file::LasFile;
-use crate::point::CLASS_PLACE;
 use crate::refusal::Refusal;
-use crate::release::keeps_point;
+use crate::release::{keeps_by_class, keeps_point};
 use crate::sheet::Sheet;
 
 /// One line of a cutting list: where a kept record's payload or a kept point stands in the file.
@@ -31,26 +30,28 @@ impl Line {
 pub fn cutting_list(file: &[u8], sheet: &[u8], list: &mut [Line]) -> Result<usize, Refusal> {
     let file = LasFile::open(file)?;
     let sheet = Sheet::read(sheet)?;
-    let kept = KeptLines::new(&file, &sheet);
-    let list = kept.front_of(list)?;
-    kept.fill(list);
-    Ok(list.len())
+    // Asked once and not for each point, as for a release.
+    if sheet.has_boxes() {
+        KeptLines::new(&file, &sheet, |record| keeps_point(&sheet, record)).list(list)
+    } else {
+        KeptLines::new(&file, &sheet, |record| keeps_by_class(&sheet, record)).list(list)
+    }
 }
 
-/// What a sheet keeps of a file, as lines. The points are only counted at first, and asked about again for their lines.
-pub(crate) struct KeptLines<'a> {
+/// What a sheet keeps of a file, as lines, with the test of a point's record that the sheet comes to. The points are
+/// only counted at first, and asked about again for their lines.
+pub(crate) struct KeptLines<'a, K> {
     file: &'a LasFile<'a>,
-    sheet: &'a Sheet<'a>,
+    keeps: K,
     /// A line for the payload of each kept record.
     pub records: Vec<Line>,
     pub point_count: usize,
 }
 
-impl<'a> KeptLines<'a> {
-    pub fn new(file: &'a LasFile<'a>, sheet: &'a Sheet<'a>) -> Self {
+impl<'a, K: Fn(&[u8]) -> bool> KeptLines<'a, K> {
+    pub fn new(file: &'a LasFile<'a>, sheet: &Sheet<'_>, keeps: K) -> Self {
         Self {
             file,
-            sheet,
             records: file
                 .vlrs()
                 .filter(|vlr| sheet.keeps_record(vlr.user_id, vlr.record_id))
@@ -59,8 +60,16 @@ impl<'a> KeptLines<'a> {
                     length: vlr.payload.len() as u64,
                 })
                 .collect(),
-            point_count: kept_points(file, sheet).count(),
+            point_count: kept_points(file, &keeps).count(),
+            keeps,
         }
+    }
+
+    /// Fills the front of `list` and returns the number of lines, or gives 31.
+    fn list(&self, list: &mut [Line]) -> Result<usize, Refusal> {
+        let list = self.front_of(list)?;
+        self.fill(list);
+        Ok(list.len())
     }
 
     /// As many lines of `list` as there are kept records and points, or 31 if it has fewer.
@@ -73,19 +82,19 @@ impl<'a> KeptLines<'a> {
     pub fn fill(&self, list: &mut [Line]) {
         let (records, points) = list.split_at_mut(self.records.len());
         records.copy_from_slice(&self.records);
-        for (to, line) in points.iter_mut().zip(kept_points(self.file, self.sheet)) {
+        for (to, line) in points.iter_mut().zip(kept_points(self.file, &self.keeps)) {
             *to = line;
         }
     }
 }
 
-/// A line for each kept point, extra bytes included.
-fn kept_points(file: &LasFile<'_>, sheet: &Sheet<'_>) -> impl Iterator<Item = Line> {
+/// A line for each point that is kept by a test of its record, extra bytes included.
+fn kept_points(file: &LasFile<'_>, keeps: impl Fn(&[u8]) -> bool) -> impl Iterator<Item = Line> {
     let length = file.header().record_length;
     let places = (u64::from(file.header().point_offset)..).step_by(usize::from(length));
     places
         .zip(file.points())
-        .filter(|(_, record)| keeps_point(sheet, record[CLASS_PLACE]))
+        .filter(move |(_, record)| keeps(record))
         .map(move |(place, _)| Line {
             place,
             length: u64::from(length),
@@ -96,7 +105,8 @@ fn kept_points(file: &LasFile<'_>, sheet: &Sheet<'_>) -> impl Iterator<Item = Li
 mod tests {
     use super::*;
     use crate::sample::{
-        P3_SHEET, PARTS_LIST, every_class_byte_file, line, p9_file, parts_file, parts_sheet,
+        P3_SHEET, PARTS_LIST, box_line, every_class_byte_file, line, p9_file, parts_file,
+        parts_sheet,
     };
 
     /// A line that no file here has.
@@ -159,6 +169,7 @@ mod tests {
         for (file, sheet) in [
             (parts_file(), [].as_slice()),
             (parts_file(), &[0x4B, 0x53, 1, 32, 255]),
+            (parts_file(), &box_line([i32::MIN; 3], [i32::MAX; 3])),
             (p9_file(), &parts_sheet()[5..26]),
         ] {
             assert_eq!(cutting_list(&file, sheet, &mut []), Ok(0));
@@ -170,6 +181,21 @@ mod tests {
     fn points_have_their_class_without_flags_and_none_is_withheld() {
         let lines = [2, 34, 66, 98].map(|index| line(291 + 28 * index, 28));
         assert_eq!(listed(&every_class_byte_file(), &P3_SHEET, 4), lines);
+    }
+
+    #[test]
+    fn points_outside_all_boxes_have_no_line() {
+        // Of the kept classes X are 10, -30 and 20, Y are 2X, Z are -X.
+        let (first, third) = ([10, 20, -10], [-30, -60, 30]);
+        let one = [parts_sheet(), box_line(third, third)].concat();
+        let lines = [PARTS_LIST[0], PARTS_LIST[1], PARTS_LIST[3]];
+        assert_eq!(listed(&parts_file(), &one, 3), lines);
+        let two = [one, box_line(first, first)].concat();
+        assert_eq!(listed(&parts_file(), &two, 4), PARTS_LIST[..4]);
+        let mut short = [JUNK; 3];
+        let answer = cutting_list(&parts_file(), &two, &mut short);
+        assert_eq!(answer, Err(Refusal::ListTooShort));
+        assert_eq!(short, [JUNK; 3]);
     }
 
     #[test]
@@ -193,6 +219,7 @@ mod tests {
             (&bad_scale, b"KS", Refusal::BadScaling),
             (&file, b"KT\x01", Refusal::WrongMark),
             (&file, &sheet[..46], Refusal::LineCut),
+            (&file, &box_line([0; 3], [0, -1, 0]), Refusal::ReversedRange),
             (&file, &P3_SHEET.repeat(65), Refusal::TooManyLines),
         ] {
             for length in [0, 4, 9] {

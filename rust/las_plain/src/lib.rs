@@ -5,7 +5,7 @@
 //! that where both agree, their definitions are LAS as the world reads it.
 //!
 //! * [`LasFile`] is a file that passes the file checks; [`check_file`] only asks.
-//! * [`Sheet`] is a keep sheet that passes; [`check_sheet`] only asks.
+//! * [`Sheet`] is a keep sheet that passes, with lines for classes, records and boxes; [`check_sheet`] only asks.
 //! * [`class_test()`] looks for the first line of a sheet that holds a class.
 //! * [`release()`] writes what a sheet leaves of a file.
 //! * [`cutting_list()`] lists which parts of a file a release takes; [`release_by_list()`] releases from such a list.
@@ -15,6 +15,7 @@
 //!
 //! A [`Refusal`] says why something was not done and has the specification's number.
 
+mod bounding_box;
 mod bytes;
 mod class_test;
 mod cutting;

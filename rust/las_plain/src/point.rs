@@ -42,12 +42,13 @@ pub struct Point {
 impl Point {
     /// Reads the fields of a record that is at least as long as its format.
     pub(crate) fn read(format: PointFormat, record: &[u8]) -> Self {
+        let [x, y, z] = stored_position(record);
         let returns = record[RETURNS_PLACE];
         let class_byte = record[CLASS_PLACE];
         Self {
-            x: i32_at(record, 0),
-            y: i32_at(record, 4),
-            z: i32_at(record, 8),
+            x,
+            y,
+            z,
             intensity: u16_at(record, 12),
             return_number: returns & 7,
             number_of_returns: returns >> 3 & 7,
@@ -106,6 +107,12 @@ impl Point {
     fn has_too_large_field(&self) -> bool {
         self.return_number > 7 || self.number_of_returns > 7 || self.classification > MOST_CLASS
     }
+}
+
+/// The stored values X, Y, Z of a record.
+#[inline]
+pub fn stored_position(record: &[u8]) -> [i32; 3] {
+    std::array::from_fn(|axis| i32_at(record, 4 * axis))
 }
 
 /// The class in a classification byte.

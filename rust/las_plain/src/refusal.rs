@@ -40,7 +40,7 @@ pub enum Refusal {
     UnknownKind,
     /// A sheet line is cut short.
     LineCut,
-    /// A sheet line's lowest class is above its highest.
+    /// A sheet line's lowest class is above its highest, or a low value of its box is above the high one.
     ReversedRange,
     /// The sheet has more than 64 lines.
     TooManyLines,
@@ -92,7 +92,7 @@ impl Refusal {
             Self::WrongMark => (20, "sheet line with a wrong mark"),
             Self::UnknownKind => (21, "sheet line of an unknown kind"),
             Self::LineCut => (22, "sheet line cut short"),
-            Self::ReversedRange => (23, "lowest class above highest"),
+            Self::ReversedRange => (23, "sheet line with its low above its high"),
             Self::TooManyLines => (24, "more than 64 sheet lines"),
             Self::OutputTooShort { .. } => (30, "output shorter than the released file"),
             Self::ListTooShort => (31, "list shorter than the kept records and points"),

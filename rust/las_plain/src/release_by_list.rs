@@ -6,7 +6,7 @@ use crate::cutting::{KeptLines, Line};
 use crate::file::LasFile;
 use crate::header::{HEADER_SIZE, Header};
 use crate::refusal::Refusal;
-use crate::release::Released;
+use crate::release::{Released, keeps_by_class, keeps_point};
 use crate::sheet::Sheet;
 use crate::tally::Tally;
 use crate::vlr::{HEAD, Vlr};
@@ -24,7 +24,23 @@ pub fn release_by_list(
 ) -> Result<Released, Refusal> {
     let file = LasFile::open(file)?;
     let sheet = Sheet::read(sheet)?;
-    let kept = KeptLines::new(&file, &sheet);
+    // Asked once and not for each point, as for the first way.
+    if sheet.has_boxes() {
+        let kept = KeptLines::new(&file, &sheet, |record| keeps_point(&sheet, record));
+        release_lines(&file, &kept, out, list)
+    } else {
+        let kept = KeptLines::new(&file, &sheet, |record| keeps_by_class(&sheet, record));
+        release_lines(&file, &kept, out, list)
+    }
+}
+
+/// Fills `list` with the kept lines and writes the released file from it to the front of `out`, or gives 31 or 30.
+fn release_lines<K: Fn(&[u8]) -> bool>(
+    file: &LasFile<'_>,
+    kept: &KeptLines<'_, K>,
+    out: &mut [u8],
+    list: &mut [Line],
+) -> Result<Released, Refusal> {
     let list = kept.front_of(list)?;
     let point_bytes = kept.point_count * usize::from(file.header().record_length);
     let needed = point_offset(&kept.records) + point_bytes;
@@ -35,7 +51,7 @@ pub fn release_by_list(
         })?;
     kept.fill(list);
     let (records, points) = list.split_at(kept.records.len());
-    write(&file, records, points, released);
+    write(file, records, points, released);
     rest.fill(0);
     Ok(Released {
         length: needed as u64,
@@ -105,7 +121,8 @@ mod tests {
     use crate::cutting::cutting_list;
     use crate::release::release;
     use crate::sample::{
-        P3_SHEET, PARTS_LIST, every_class_byte_file, line, p9_file, parts_file, parts_sheet,
+        P3_SHEET, PARTS_LIST, box_line, every_class_byte_file, line, p9_file, parts_file,
+        parts_sheet,
     };
 
     /// A line that no file here has.
@@ -177,8 +194,19 @@ mod tests {
     #[test]
     fn both_ways_give_the_same_output_and_numbers() {
         let both = parts_sheet();
+        let around_p9 = box_line([-1, -2, -1], [-1, -2, -1]);
+        let boxed = [both.clone(), box_line([0, 0, -99], [99, 99, 0]), around_p9].concat();
+        let boxes = &boxed[both.len()..];
         for file in [parts_file(), p9_file(), every_class_byte_file()] {
-            for sheet in [&[], &both[..5], &both[5..], &both, b"KS\x01\x00\xFF"] {
+            for sheet in [
+                &[],
+                &both[..5],
+                &both[5..],
+                &both,
+                b"KS\x01\x00\xFF",
+                &boxed,
+                boxes,
+            ] {
                 let mut out = vec![0; file.len()];
                 let released = release(&file, sheet, &mut out).unwrap().length as usize;
                 for length in [0, 226, released - 1, released, released + 1, file.len()] {
@@ -241,6 +269,7 @@ mod tests {
             (&file[..226], b"KS".as_slice(), Refusal::FileTooSmall),
             (&file[..508], b"KS", Refusal::PointsPastEnd),
             (&file, &sheet[..46], Refusal::LineCut),
+            (&file, &box_line([0; 3], [0, -1, 0]), Refusal::ReversedRange),
             (&file, &P3_SHEET.repeat(65), Refusal::TooManyLines),
         ] {
             for (length, lines) in [(0, 0), (0, 9), (500, 0), (500, 9)] {

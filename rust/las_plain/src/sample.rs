@@ -1,5 +1,6 @@
 //! The specification's sample file and sheet and others, for the tests.
 
+use crate::bounding_box::BoundingBox;
 use crate::bytes::put;
 use crate::cutting::Line;
 use crate::format::PointFormat;
@@ -31,6 +32,19 @@ pub fn every_class_byte_file() -> Vec<u8> {
     put(&mut file, 107, &256u32.to_le_bytes());
     for byte in 0..=255 {
         record[CLASS_PLACE] = byte;
+        file.extend_from_slice(&record);
+    }
+    file
+}
+
+/// The file of sample P9 with a point of class 2 at each of these stored values X, Y, Z.
+pub fn positions_file(positions: &[[i32; 3]]) -> Vec<u8> {
+    let mut file = p9_file();
+    let mut record = file.split_off(319);
+    file.truncate(291);
+    put(&mut file, 107, &(positions.len() as u32).to_le_bytes());
+    for position in positions {
+        put(&mut record, 0, &position.map(i32::to_le_bytes).concat());
         file.extend_from_slice(&record);
     }
     file
@@ -68,6 +82,38 @@ pub fn parts_sheet() -> Vec<u8> {
     let other = b"KS\x02other\0\0\0\0\0\0\0\0\0\0\0\x07\0";
     let user = b"KS\x02user\0\0\0\0\0\0\0\0\0\0\0\0\x07\0";
     [P3_SHEET.as_slice(), other, user].concat()
+}
+
+/// A box whose six values differ.
+pub const SAMPLE_BOX: BoundingBox = BoundingBox {
+    low: [-10, 20, -5],
+    high: [-7, 25, 5],
+};
+
+/// Stored values X, Y, Z around [`SAMPLE_BOX`], each with whether they lie in it: its corners, and places on its edges,
+/// on its faces, within it and one beside it.
+pub fn around_sample_box() -> Vec<([i32; 3], bool)> {
+    let places: [[i32; 5]; 3] = std::array::from_fn(|axis| {
+        let (low, high) = (SAMPLE_BOX.low[axis], SAMPLE_BOX.high[axis]);
+        [low - 1, low, low + 2, high, high + 1]
+    });
+    let steps = (0..125).map(|index| [index / 25, index / 5 % 5, index % 5]);
+    steps
+        .map(|steps| {
+            let stored = std::array::from_fn(|axis| places[axis][steps[axis]]);
+            (stored, steps.iter().all(|step| (1..=3).contains(step)))
+        })
+        .collect()
+}
+
+/// A line of a sheet for the box from `low` to `high`.
+pub fn box_line(low: [i32; 3], high: [i32; 3]) -> Vec<u8> {
+    let mut line = b"KS\x03".to_vec();
+    for (low, high) in low.iter().zip(high) {
+        line.extend(low.to_le_bytes());
+        line.extend(high.to_le_bytes());
+    }
+    line
 }
 
 /// The cutting list of [`parts_file`] under [`parts_sheet`].

@@ -71,7 +71,7 @@ pub return-front : (f n : ℕ) (p : Bytes) → 20 ≤ n → returnOf f (take n p
 unfolding returnOf
 return-front f n p h = ap (bits 0 3) (getD-take n p 14 0 (omega arith))
 
-stored-front : (axis n : ℕ) (p : Bytes) → axis ≤ 2 → 20 ≤ n → stored axis (take n p) ≡ stored axis p
+pub stored-front : (axis n : ℕ) (p : Bytes) → axis ≤ 2 → 20 ≤ n → stored axis (take n p) ≡ stored axis p
 unfolding stored
 stored-front axis n p a h = ap (λ (b : Bytes). toZ w32 (num b)) (part-take (4 * axis) 4 n p (omega arith))
 

@@ -5,6 +5,7 @@ use mathlib.Core.Path.{_≡_, refl}
 use Prim.Native.Nat.{ℕ}
 use mathlib.Core.Bool.{Bool}
 use mathlib.Core.List.{List}
+use lib.IntN.{ℤ}
 use lib.Seq.{sets}
 use Rattle.fields.specs.Bytes.{Bytes}
 use Rattle.lasfile.specs.Records.{recordsBytes}
@@ -30,9 +31,9 @@ pub head-said : (s : Bytes) (t : Tally) (records start : ℕ) → _≡_ {A = Hea
 unfolding headWith totalsOf
 head-said s t records start = refl
 
-pub written-is : (sheet s : Bytes) (table : List Bool) (records start : ℕ) (out : Bytes)
-    → written sheet s table records start out
-    ≡ sets (withPoints table s start (sets out headerBlock (recordsBytes 2 (publicOf sheet s .records)))) 0
-    (headBytes s (totalsOf s (tallyOf (format s) (keptIn table s)) records start))
+pub written-is : (sheet s : Bytes) (table : List Bool) (boxes : List ℤ) (records start : ℕ) (out : Bytes)
+    → written sheet s table boxes records start out
+    ≡ sets (withPoints table boxes s start (sets out headerBlock (recordsBytes 2 (publicOf sheet s .records)))) 0
+    (headBytes s (totalsOf s (tallyOf (format s) (keptIn table boxes s)) records start))
 unfolding written
-written-is sheet s table records start out = refl
+written-is sheet s table boxes records start out = refl

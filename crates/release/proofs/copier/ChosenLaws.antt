@@ -4,17 +4,15 @@
 use mathlib.Core.Path.{_≡_, refl, ap}
 use Prim.Native.Nat.{ℕ, zero, suc, _+_, _-_, _*_, _≤_, _<_}
 use native.Mathlib.Omega.{arith}
-use mathlib.Core.Bool.{true}
 use mathlib.Core.List.{List, [], _∷_, _++_, append-nil}
 use lib.ListN.{length, take, getD, length-append}
 use lib.Seq.{sets, length-sets}
-use Rattle.fields.specs.Lists.{consIf}
 use Rattle.fields.specs.Bytes.{Bytes, part, join}
 use Rattle.fields.proofs.ByteLaws.{length-part, join-append}
 use Rattle.fields.proofs.StoreLaws.{sets-append}
 use Rattle.points.proofs.raw.RunLaws.{mul-step}
 use Rattle.release.specs.KeptPoints.{picked, Places}
-use Rattle.release.proofs.kept_points.PickedLaws.{picked-one}
+use Rattle.release.proofs.kept_points.PickedLaws.{picked-more, place-at}
 
 take-more : (j : ℕ) (l : List ℕ) → j < length l → take (j + 1) l ≡ take j l ++ (getD l j 0 ∷ [])
 take-more j [] h = absurd (omega arith)
@@ -23,20 +21,9 @@ take-more (suc j) (x ∷ xs) h =
     let e : suc j + 1 ≡ suc (j + 1) = omega arith in
     rw e (ap (λ (r : List ℕ). x ∷ r) (take-more j xs (omega arith)))
 
-picked-more : (w : ℕ) (run : Bytes) (ps : List ℕ) (a : ℕ) → picked w run (ps ++ (a ∷ [])) ≡ picked w run ps ++ (part a w run ∷ [])
-unfolding consIf
-picked-more w run ps a = picked-one w run ps true a
-
 join-more : (ps : List Bytes) (p : Bytes) → join (ps ++ (p ∷ [])) ≡ join ps ++ p
 unfolding join
 join-more ps p = rw (join-append, append-nil)
-
--- a place among the first k has a record
-pub place-at : (w : ℕ) (run : Bytes) (k j : ℕ) (l : List ℕ) → k ≤ length l → j < k → Places w run (take k l) → getD l j 0 + w ≤ length run
-place-at w run zero j l h less places = absurd (omega arith)
-place-at w run (suc k) j [] h less places = absurd (omega arith)
-place-at w run (suc k) zero (x ∷ xs) h less places = places .0
-place-at w run (suc k) (suc j) (x ∷ xs) h less places = place-at w run k j xs (omega arith) (omega arith) (places .1)
 
 -- the records at the first j places stand at the front of the output, and nothing else has changed there
 pub record Pasted (w : ℕ) (run : Bytes) (chosen : List ℕ) (k : ℕ) (out₀ out : Bytes) (to j : ℕ) : Type 0 where

@@ -16,7 +16,7 @@ returns c =
     let a = placed .before .before .args in
     let run : now (c .before .part-at .result) ≡ drop (placed .point-offset .result) (now (a .file)) = c .before .part-at .ensures ∙ from-place (now (a .file)) _ in
     c .count-points .ensures
-    ∙ rw (kept-in (now (a .table)) (now (a .file)), run, placed .point-offset .ensures .0, formed .format .ensures .0, sized .record-length .ensures .0, counted .point-count .ensures .0)
+    ∙ rw (kept-in (now (a .table)) (now (a .boxes)) (now (a .file)), run, placed .point-offset .ensures .0, formed .format .ensures .0, sized .record-length .ensures .0, counted .point-count .ensures .0)
 
 pub count-kept-spec : {M : Type 1} → statement M
 count-kept-spec =

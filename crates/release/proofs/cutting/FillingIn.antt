@@ -7,6 +7,7 @@ use mathlib.Core.Bool.{Bool, true, false}
 use mathlib.Core.List.{List, [], _∷_, _++_, append-assoc}
 use mathlib.Core.WellFounded.{WellFounded, InvImage·wf}
 use lib.WfN.{Nat·lt-wfRel}
+use lib.IntN.{ℤ}
 use lib.ListN.{length, take, drop, set, length-append, length-set, take-append-drop}
 use lib.Seq.{length-take-le, take-at, drop-set-lt}
 use mir.Val.{Val}
@@ -35,21 +36,21 @@ here t = span (t .place) (t .length)
 -- n lines are to be filled into the list as it was, ys; the filling stands at t, and the list is zs. Its lines before
 -- line k and those of what is still to look at are all the lines. Line k may be any, and from line n on the list is as
 -- it was
-pub record Filled (sheet : Bytes) (table : List Bool) (s : Bytes) (n : ℕ) (ys : List Span) : Type 0 where
+pub record Filled (sheet : Bytes) (table : List Bool) (boxes : List ℤ) (s : Bytes) (n : ℕ) (ys : List Span) : Type 0 where
   pub t : Filling
   pub zs : List Span
   pub ready : Ready s t
   pub hand : HasLine s t
   pub bound : t .n ≡ n
-  pub all : take (t .k) zs ++ linesFrom sheet table s t ≡ tableLines sheet table s
+  pub all : take (t .k) zs ++ linesFrom sheet table boxes s t ≡ tableLines sheet table boxes s
   pub few : t .k ≤ n
   pub back : drop n zs ≡ drop n ys
   pub long : length zs ≡ length ys
   pub good : Is U.the-row t (uval t ∷ [])
 
-module _ (sheet : Bytes) (table : List Bool) (s : Bytes) (n : ℕ) (ys : List Span) where
+module _ (sheet : Bytes) (table : List Bool) (boxes : List ℤ) (s : Bytes) (n : ℕ) (ys : List Span) where
   abbrev pub State : Type 0
-  State = Filled sheet table s n ys
+  State = Filled sheet table boxes s n ys
 
   -- the number of things still to look at
   abbrev left : State → ℕ
@@ -68,14 +69,14 @@ module _ (sheet : Bytes) (table : List Bool) (s : Bytes) (n : ℕ) (ys : List Sp
     ready = b .ready;
     hand = h;
     bound = b .bound;
-    all = ap (λ (k : ℕ). take k ys ++ linesFrom sheet table s t) (b .none) ∙ b .lines sheet table;
+    all = ap (λ (k : ℕ). take k ys ++ linesFrom sheet table boxes s t) (b .none) ∙ b .lines sheet table boxes;
     few = omega (arith, b .none);
     back = refl;
     long = refl;
     good = g;
   }
 
-  module _ (small : n ≤ length (tableLines sheet table s)) (fits : n ≤ length ys) where
+  module _ (small : n ≤ length (tableLines sheet table boxes s)) (fits : n ≤ length ys) where
     -- the lines before line k are k lines
     front : (a : State) → length (take (a .t .k) (a .zs)) ≡ a .t .k
     front a = length-take-le (a .t .k) (a .zs) (omega (arith, a .few, a .long))
@@ -89,13 +90,13 @@ module _ (sheet : Bytes) (table : List Bool) (s : Bytes) (n : ℕ) (ys : List Sp
 
       pub has-more : 0 < a .t .records + a .t .points
       has-more =
-          some-left sheet table s (a .t)
-          (omega (arith, below, front a, sym (length-append (take (a .t .k) (a .zs)) (linesFrom sheet table s (a .t))) ∙ ap length (a .all)))
+          some-left sheet table boxes s (a .t)
+          (omega (arith, below, front a, sym (length-append (take (a .t .k) (a .zs)) (linesFrom sheet table boxes s (a .t))) ∙ ap length (a .all)))
 
-      module _ (t′ : Filling) (l : Looked sheet table s (a .t) t′) (h : HasLine s t′) (g : Is U.the-row t′ (uval t′ ∷ [])) (zs′ : List Span) (e : zs′ ≡ set (a .zs) (a .t .k) (here (a .t))) where
-        pub still-all : take (t′ .k) zs′ ++ linesFrom sheet table s t′ ≡ tableLines sheet table s
+      module _ (t′ : Filling) (l : Looked sheet table boxes s (a .t) t′) (h : HasLine s t′) (g : Is U.the-row t′ (uval t′ ∷ [])) (zs′ : List Span) (e : zs′ ≡ set (a .zs) (a .t .k) (here (a .t))) where
+        pub still-all : take (t′ .k) zs′ ++ linesFrom sheet table boxes s t′ ≡ tableLines sheet table boxes s
         still-all =
-            let rest : List Span = linesFrom sheet table s t′ in
+            let rest : List Span = linesFrom sheet table boxes s t′ in
             let before : List Span = take (a .t .k) (a .zs) in
             let put = take-put (a .t .k) (a .zs) (here (a .t)) (l .keep) has-place in
             (λ i. take (l .count i) (e i) ++ rest)
@@ -119,11 +120,11 @@ module _ (sheet : Bytes) (table : List Bool) (s : Bytes) (n : ℕ) (ys : List Sp
         }
 
     -- all n lines are filled
-    pub at-end : (a : State) → a .t .more ≡ false → a .zs ≡ fill (take n (tableLines sheet table s)) ys
+    pub at-end : (a : State) → a .t .more ≡ false → a .zs ≡ fill (take n (tableLines sheet table boxes s)) ys
     unfolding fill
     at-end a no-more =
         let full : a .t .k ≡ n = omega (arith, a .few, ltb-false (a .t .k) (a .t .n) (sym (a .hand .more) ∙ no-more), a .bound) in
-        let lines : take n (tableLines sheet table s) ≡ take n (a .zs) =
-        ap (take n) (sym (a .all)) ∙ take-at (take (a .t .k) (a .zs)) (linesFrom sheet table s (a .t)) n (front a ∙ full) ∙ ap (λ (k : ℕ). take k (a .zs)) full in
-        let number : length (take n (tableLines sheet table s)) ≡ n = length-take-le n (tableLines sheet table s) small in
-        sym (take-append-drop n (a .zs)) ∙ (λ i. sym lines i ++ a .back i) ∙ ap (λ (m : ℕ). take n (tableLines sheet table s) ++ drop m ys) (sym number)
+        let lines : take n (tableLines sheet table boxes s) ≡ take n (a .zs) =
+        ap (take n) (sym (a .all)) ∙ take-at (take (a .t .k) (a .zs)) (linesFrom sheet table boxes s (a .t)) n (front a ∙ full) ∙ ap (λ (k : ℕ). take k (a .zs)) full in
+        let number : length (take n (tableLines sheet table boxes s)) ≡ n = length-take-le n (tableLines sheet table boxes s) small in
+        sym (take-append-drop n (a .zs)) ∙ (λ i. sym lines i ++ a .back i) ∙ ap (λ (m : ℕ). take n (tableLines sheet table boxes s) ++ drop m ys) (sym number)

@@ -6,13 +6,14 @@ use native.Mathlib.Omega.{arith}
 use mathlib.Core.Bool.{Bool, cond}
 use mathlib.Core.List.{List, [], _++_, map}
 use lib.ListN.{length, drop}
+use lib.IntN.{ℤ}
 use Rattle.fields.specs.Lists.{kept, consIf}
 use Rattle.fields.specs.Bytes.{Bytes, part}
 use Rattle.fields.proofs.ListLaws.{consIf-append, map-consIf}
 use Rattle.lasfile.specs.Records.{recordAt, sizeOf, places}
 use Rattle.lasfile.specs.HeaderFields.{headerSize, pointOffset, recordCount, format, recordLength, pointCount}
 use Rattle.points.proofs.raw.RunLaws.{mul-step}
-use Rattle.sheet.specs.Keeping.{inTable}
+use Rattle.sheet.specs.Boxes.{keepsBy}
 use Rattle.publicpart.specs.Public.{sheetKeeps}
 use Rattle.publicpart.specs.declared.Span.{Span}
 use Rattle.publicpart.specs.Cutting.{span, strides, payloadLine, payloadLines, pieceLines}
@@ -34,19 +35,19 @@ at-point s (suc n) at point-at h = absurd (omega arith)
 
 -- ---- the lines of n records and m points, and of one less
 
-module _ (sheet : Bytes) (table : List Bool) (s : Bytes) where
+module _ (sheet : Bytes) (table : List Bool) (boxes : List ℤ) (s : Bytes) where
   abbrev records : ℕ → ℕ → List Span
   records n at = payloadLines sheet s n at
 
   abbrev points : ℕ → ℕ → List Span
-  points m at = pieceLines (inTable table (format s)) s (recordLength s) m at
+  points m at = pieceLines (keepsBy table boxes (format s)) s (recordLength s) m at
 
   -- whether the record, or the point, at a place is kept
   abbrev record-kept : ℕ → Bool
   record-kept at = sheetKeeps sheet (recordAt 2 s at)
 
   abbrev point-kept : ℕ → Bool
-  point-kept at = inTable table (format s) (part at (recordLength s) s)
+  point-kept at = keepsBy table boxes (format s) (part at (recordLength s) s)
 
   record-first : (n at : ℕ) → records (suc n) at ≡ consIf (record-kept at) (payloadLine s at) (records n (at + sizeOf 2 (drop at s)))
   unfolding payloadLines kept places
@@ -65,11 +66,11 @@ module _ (sheet : Bytes) (table : List Bool) (s : Bytes) where
   no-points at = refl
 
   -- where there is a line, something is still to look at
-  nothing-left : (t : Filling) → t .records ≡ 0 → t .points ≡ 0 → linesFrom sheet table s t ≡ []
+  nothing-left : (t : Filling) → t .records ≡ 0 → t .points ≡ 0 → linesFrom sheet table boxes s t ≡ []
   unfolding linesOf
   nothing-left t e f = rw (e, f, no-records, no-points)
 
-  pub some-left : (t : Filling) → 0 < length (linesFrom sheet table s t) → 0 < t .records + t .points
+  pub some-left : (t : Filling) → 0 < length (linesFrom sheet table boxes s t) → 0 < t .records + t .points
   some-left t h = by-number (t .records + t .points) refl
     where
       by-number : (n : ℕ) → t .records + t .points ≡ n → 0 < n
@@ -80,7 +81,7 @@ module _ (sheet : Bytes) (table : List Bool) (s : Bytes) where
 
   module _ (t : Filling) (ready : Ready s t) (hand : HasLine s t) (j : ℕ) where
     pub past-record : 0 < t .records → j ≡ cond (record-kept (t .«record_at»)) 1 0 → (size : ℕ) → size ≡ sizeOf 2 (drop (t .«record_at») s) → size < 2 ^ 17
-        → Looked sheet table s t (record {
+        → Looked sheet table boxes s t (record {
           more = t .more;
           k = t .k + j;
           place = t .place;
@@ -121,7 +122,7 @@ module _ (sheet : Bytes) (table : List Bool) (s : Bytes) where
         }
 
     pub past-point : t .records ≡ 0 → 0 < t .points → j ≡ cond (point-kept (t .«point_at»)) 1 0
-        → Looked sheet table s t (record {
+        → Looked sheet table boxes s t (record {
           more = t .more;
           k = t .k + j;
           place = t .place;
@@ -170,9 +171,9 @@ module _ (s : Bytes) where
   ready-with-line t r =
       record { format = r .format; size = r .size; short = r .short; few = r .few; records-low = r .records-low; points-low = r .points-low }
 
-  pub looked-with-line : (sheet : Bytes) (table : List Bool) (t r : Filling) → Looked sheet table s t r → Looked sheet table s t (withLine s r)
+  pub looked-with-line : (sheet : Bytes) (table : List Bool) (boxes : List ℤ) (t r : Filling) → Looked sheet table boxes s t r → Looked sheet table boxes s t (withLine s r)
   unfolding linesOf
-  looked-with-line sheet table t r l =
+  looked-with-line sheet table boxes t r l =
       record { ready = ready-with-line r (l .ready); bound = l .bound; keep = l .keep; count = l .count; lines = l .lines; fewer = l .fewer }
 
   -- where all begins
@@ -196,5 +197,5 @@ module _ (s : Bytes) where
             };
         none = z;
         bound = b;
-        lines = λ sheet table. rw (rc .0, ra .0, pc .0, pa .0);
+        lines = λ sheet table boxes. rw (rc .0, ra .0, pc .0, pa .0);
       }

@@ -13,7 +13,7 @@ use Rattle.release.specs.KeptPoints.{picked, Places}
 use Rattle.release.proofs.kept_points.PickedLaws.{picked-one}
 use Rattle.release.proofs.kept_points.LoopLaws.{Looked, step-le, take-put, begun, done-all, ends, next}
 
-places-one : (w : ℕ) (run : Bytes) (ps : List ℕ) (b : Bool) (a : ℕ) → Places w run ps → a + w ≤ length run → Places w run (ps ++ consIf b a [])
+pub places-one : (w : ℕ) (run : Bytes) (ps : List ℕ) (b : Bool) (a : ℕ) → Places w run ps → a + w ≤ length run → Places w run (ps ++ consIf b a [])
 unfolding consIf
 places-one w run [] true a h e = (e, tt)
 places-one w run [] false a h e = tt

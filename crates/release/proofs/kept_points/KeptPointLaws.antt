@@ -11,26 +11,25 @@ use Rattle.fields.proofs.ByteLaws.{pieces-width, length-join-pieces}
 use Rattle.fields.proofs.ListLaws.{All-kept}
 use Rattle.points.specs.Raw.{inRun}
 use Rattle.points.proofs.raw.RunLaws.{InRun, in-run, points-held, points-none}
-use Rattle.sheet.specs.Keeping.{inTable}
 use Rattle.release.specs.KeptPoints.{keptPoints}
 
-pub kept-held : (table : List Bool) (f count len : ℕ) (run : Bytes) → InRun count len (length run)
-    → keptPoints table f count len run ≡ kept (inTable table f) (pieces count len run)
+pub kept-held : (keep : Bytes → Bool) (count len : ℕ) (run : Bytes) → InRun count len (length run)
+    → keptPoints keep count len run ≡ kept keep (pieces count len run)
 unfolding keptPoints
-kept-held table f count len run h = rw (points-held count len run h)
+kept-held keep count len run h = rw (points-held count len run h)
 
-pub kept-none : (table : List Bool) (f count len : ℕ) (run : Bytes) → inRun count len (length run) ≡ false → keptPoints table f count len run ≡ []
+pub kept-none : (keep : Bytes → Bool) (count len : ℕ) (run : Bytes) → inRun count len (length run) ≡ false → keptPoints keep count len run ≡ []
 unfolding keptPoints kept
-kept-none table f count len run e = rw (points-none count len run e)
+kept-none keep count len run e = rw (points-none count len run e)
 
 -- each has the record length
-widths : (table : List Bool) (f count len : ℕ) (run : Bytes) (b : Bool) → inRun count len (length run) ≡ b → All (λ p. length p ≡ len) (keptPoints table f count len run)
-widths table f count len run true e =
+widths : (keep : Bytes → Bool) (count len : ℕ) (run : Bytes) (b : Bool) → inRun count len (length run) ≡ b → All (λ p. length p ≡ len) (keptPoints keep count len run)
+widths keep count len run true e =
     let h = in-run count len (length run) e in
-    rw (kept-held table f count len run h) (All-kept (λ p. length p ≡ len) (inTable table f) (pieces count len run) (pieces-width count len run (h .within)))
-widths table f count len run false e = rw (kept-none table f count len run e) tt
+    rw (kept-held keep count len run h) (All-kept (λ p. length p ≡ len) keep (pieces count len run) (pieces-width count len run (h .within)))
+widths keep count len run false e = rw (kept-none keep count len run e) tt
 
-pub length-kept-points : (table : List Bool) (f count len : ℕ) (run : Bytes)
-    → length (join (keptPoints table f count len run)) ≡ length (keptPoints table f count len run) * len
-length-kept-points table f count len run =
-    length-join-pieces len (keptPoints table f count len run) (widths table f count len run (inRun count len (length run)) refl)
+pub length-kept-points : (keep : Bytes → Bool) (count len : ℕ) (run : Bytes)
+    → length (join (keptPoints keep count len run)) ≡ length (keptPoints keep count len run) * len
+length-kept-points keep count len run =
+    length-join-pieces len (keptPoints keep count len run) (widths keep count len run (inRun count len (length run)) refl)

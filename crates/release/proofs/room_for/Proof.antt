@@ -25,18 +25,18 @@ returns : tie.Need-returns
 returns c =
     let p = c .before in
     let a = p .before .before .before .args in
-    most-is p ∙ asked-most (now (a .table)) (now (a .file)) (a .start) (a .room) (omega (arith, most-is p, c .if1 .taken))
+    most-is p ∙ asked-most (now (a .table)) (now (a .boxes)) (now (a .file)) (a .start) (a .room) (omega (arith, most-is p, c .if1 .taken))
 
 -- the kept ones, which are counted
 end-is : (c : tie.After-count-kept)
     → let a = c .before .before .before .before .before .args in
-    a .start + c .count-kept .result * c .before .before .before .record-length .result ≡ endOfPoints (now (a .table)) (now (a .file)) (a .start)
+    a .start + c .count-kept .result * c .before .before .before .record-length .result ≡ endOfPoints (now (a .table)) (now (a .boxes)) (now (a .file)) (a .start)
 end-is c =
     let a = c .before .before .before .before .before .args in
-    rw (points-end (now (a .table)) (now (a .file)) (a .start), c .count-kept .ensures, c .before .before .before .record-length .ensures .0)
+    rw (points-end (now (a .table)) (now (a .boxes)) (now (a .file)) (a .start), c .count-kept .ensures, c .before .before .before .record-length .ensures .0)
 
-small : (c : tie.After-count-kept) → let a = c .before .before .before .before .before .args in endOfPoints (now (a .table)) (now (a .file)) (a .start) < 2 ^ 64
-small c = let s = c .before .before .before .before .before in let a = s .args in omega (arith, end-most (now (a .table)) (now (a .file)) (a .start), s .pre)
+small : (c : tie.After-count-kept) → let a = c .before .before .before .before .before .args in endOfPoints (now (a .table)) (now (a .boxes)) (now (a .file)) (a .start) < 2 ^ 64
+small c = let s = c .before .before .before .before .before in let a = s .args in omega (arith, end-most (now (a .table)) (now (a .boxes)) (now (a .file)) (a .start), s .pre)
 
 mul-result : tie.Need-mul-result
 mul-result c = omega (arith, end-is c, small c)
@@ -48,7 +48,7 @@ returns-2 : tie.Need-returns-2
 returns-2 c =
     let p = c .before .before in
     let a = p .before .before .before .args in
-    end-is c ∙ asked-counted (now (a .table)) (now (a .file)) (a .start) (a .room) (omega (arith, most-is p, c .before .if1 .left))
+    end-is c ∙ asked-counted (now (a .table)) (now (a .boxes)) (now (a .file)) (a .start) (a .room) (omega (arith, most-is p, c .before .if1 .left))
 
 pub room-for-spec : {M : Type 1} → statement M
 room-for-spec =

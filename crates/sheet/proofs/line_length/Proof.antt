@@ -10,7 +10,7 @@ use Rattle.sheet.proofs.line_length.Tie as tie
 returns : tie.Need-returns
 unfolding lineLength kind
 returns c =
-    let table : c .u8-at2 .result ≡ getD (0 ∷ 5 ∷ 21 ∷ []) (c .before .before .u8-at .result) 0 = c .u8-at2 .ensures in
+    let table : c .u8-at2 .result ≡ getD (0 ∷ 5 ∷ 21 ∷ 27 ∷ []) (c .before .before .u8-at .result) 0 = c .u8-at2 .ensures in
     table ∙ ap lineLength (c .before .before .u8-at .ensures)
 
 pub line-length-spec : {M : Type 1} → statement M

@@ -19,7 +19,7 @@ use Rattle.sheet.specs.Keeping.{containsClass, namesRecord, keepsClass, keepsRe
 
 -- ---- what a line says
 
-all-three : (a b c : Bool) → (a && (b && c)) ≡ true → (a ≡ true) × (b ≡ true) × (c ≡ true)
+pub all-three : (a b c : Bool) → (a && (b && c)) ≡ true → (a ≡ true) × (b ≡ true) × (c ≡ true)
 all-three a b c e =
     let f : (a ≡ true) × ((b && c) ≡ true) = and-eq-true-iff a (b && c) .0 e in
     let g : (b ≡ true) × (c ≡ true) = and-eq-true-iff b c .0 (f .1) in
@@ -87,12 +87,6 @@ unfolding keepsRecord
 keeps-record sheet user id =
     some-says (λ l. namesRecord l user id) (λ l. (kind l ≡ 2) × (userID l ≡ user) × (recordID l ≡ id)) (λ l. names-record l user id) (lines sheet)
 
-same-lines : (s t : Bytes) → lines s ≡ lines t
-    → ((c : ℕ) → keepsClass s c ≡ keepsClass t c)
-    × ((user : Bytes) (id : ℕ) → keepsRecord s user id ≡ keepsRecord t user id)
-unfolding keepsClass keepsRecord
-same-lines s t e = (λ c. rw e, λ user id. rw e)
-
 none : lines [] ≡ []
 none = lines-from [] ∙ lines-end 64 [] (omega arith)
 
@@ -102,4 +96,4 @@ unfolding keepsClass keepsRecord anyOf
 empty = (verdict-from [] ∙ verdict-end 64 [] (omega arith), λ c. rw none, λ user id. rw none)
 
 pub kept-by-lines : KeptByLines
-kept-by-lines = record { class = keeps-class; entry = keeps-record; by-lines = same-lines; empty = empty }
+kept-by-lines = record { class = keeps-class; entry = keeps-record; empty = empty }

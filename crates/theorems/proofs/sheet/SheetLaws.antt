@@ -9,8 +9,8 @@ use Rattle.fields.specs.declared.Verdict.the-variants.{Passes, Fails}
 use Rattle.fields.specs.Bytes.{Bytes, part, same, join}
 use Rattle.fields.specs.Checks.{firstFailing, failIf, fails, then}
 use Rattle.fields.proofs.CheckLaws.{then-passed}
-use Rattle.sheet.specs.Sheet.{kind, lineLength, lowest, highest, afterLine, linesFrom, lines, inOrder, lineChecks, linesVerdict, sheetVerdict}
-use Rattle.sheet.proofs.LineLaws.{first-after, lines-from, lines-more, lines-full, lines-end, verdict-from, verdict-more, verdict-full}
+use Rattle.sheet.specs.Sheet.{kind, lineLength, lowest, highest, edge, low, high, onEveryAxis, afterLine, linesFrom, lines, boxInOrder, inOrder, lineChecks, linesVerdict, sheetVerdict}
+use Rattle.sheet.proofs.LineLaws.{first-after, lines-from, lines-more, lines-end, at-most-64, verdict-from, verdict-more, verdict-full}
 use Rattle.theorems.specs.Sheets.{line, SheetLines}
 
 join-lines : (n : ℕ) (s : Bytes) → linesVerdict n s ≡ Passes → join (linesFrom n s) ≡ s
@@ -30,19 +30,9 @@ join-lines (suc n) (b ∷ bs) e =
 lines-whole : (s : Bytes) → sheetVerdict s ≡ Passes → join (lines s) ≡ s
 lines-whole s e = rw (lines-from s) (join-lines 64 s (sym (verdict-from s) ∙ e))
 
-length-linesFrom : (n : ℕ) (s : Bytes) → length (linesFrom n s) ≤ n
-length-linesFrom zero s = rw (lines-full zero s refl) (omega arith)
-length-linesFrom (suc n) [] = rw (lines-end (suc n) [] (omega arith)) (omega arith)
-length-linesFrom (suc n) (b ∷ bs) =
-    let k : suc n - 1 ≡ n = omega arith in
-    rw (lines-more (suc n) (b ∷ bs) (omega arith) (omega arith), k) (omega (arith, length-linesFrom n (afterLine (b ∷ bs))))
-
-at-most-64 : (s : Bytes) → length (lines s) ≤ 64
-at-most-64 s = rw (lines-from s) (length-linesFrom 64 s)
-
 counted : (sheetVerdict (join (replicate 64 line)) ≡ Passes)
     × (sheetVerdict (join (replicate 64 line) ++ 0x4B ∷ []) ≡ Fails 24)
-unfolding sheetVerdict linesVerdict afterLine lineLength kind lowest highest lineChecks inOrder firstFailing failIf fails then same part join
+unfolding sheetVerdict linesVerdict afterLine lineLength kind lowest highest edge low high onEveryAxis lineChecks boxInOrder inOrder firstFailing failIf fails then same part join
 counted = (refl, refl)
 
 pub lines-are : SheetLines

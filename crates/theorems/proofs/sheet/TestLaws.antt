@@ -7,6 +7,7 @@ use native.Mathlib.Omega.{arith}
 use mathlib.Core.Bool.{Bool, true, false}
 use mathlib.Core.List.{List, [], _∷_, _++_}
 use lib.ListN.{length}
+use lib.Dec.{eqb}
 use Rattle.fields.specs.declared.Verdict.{Verdict}
 use Rattle.fields.specs.declared.Verdict.the-variants.{Passes, Fails}
 use Rattle.fields.specs.Lists.{All, anyOf}
@@ -150,9 +151,10 @@ module _ (sheet : Bytes) (c : ℕ) where
       let says = some-says contains (λ l. contains l ≡ true) (λ l. (λ e. e, λ e. e)) (lines sheet) in
       (λ e. says .0 (under .0 e .1), λ w. under .1 (passes, says .1 w, refl))
 
-never-kind-2 : (l : Bytes) (c : ℕ) → kind l ≡ 2 → containsClass l c ≡ false
+-- a line of another kind than 1
+never-other : (k : ℕ) → eqb k 1 ≡ false → (l : Bytes) (c : ℕ) → kind l ≡ k → containsClass l c ≡ false
 unfolding containsClass
-never-kind-2 l c e = rw e
+never-other k ne l c e = rw (e, ne)
 
 pub lines-looked-at : LinesLookedAt
 lines-looked-at =
@@ -162,7 +164,8 @@ lines-looked-at =
       refused = λ sheet c n. refused-under (sheetVerdict sheet) (keepsClass sheet c) (linesFor sheet c) n;
       to-64 = to-64;
       some-line = some-line;
-      never-kind-2 = never-kind-2;
+      never-kind-2 = never-other 2 refl;
+      never-kind-3 = never-other 3 refl;
     }
 
 -- ---- the question whether a class is kept

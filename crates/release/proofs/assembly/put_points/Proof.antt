@@ -3,6 +3,7 @@ use mathlib.Core.Path.{_≡_, _∙_}
 use Prim.Native.Nat.{ℕ, _+_, _-_, _*_, _≤_}
 use native.Mathlib.Omega.{arith}
 use denote.Ref.{now}
+use Rattle.sheet.specs.Boxes.{keepsBy}
 use lib.ListN.{length, take, drop, length-drop}
 use Rattle.fields.specs.Bytes.{Bytes}
 use Rattle.fields.proofs.StoreLaws.{tail-part}
@@ -33,15 +34,15 @@ part-at-requires c κs = search needs
 -- the points that are copied are those of the file
 points-are : (c : tie.After-part-at)
     → let a = c .before .before .before .before .before .before .before .args in
-    keptPoints (now (a .table)) (c .before .before .before .format .result) (c .before .point-count .result) (c .before .before .record-length .result) (now (c .part-at .result)) ≡ keptIn (now (a .table)) (now (a .file))
+    keptPoints (keepsBy (now (a .table)) (now (a .boxes)) (c .before .before .before .format .result)) (c .before .point-count .result) (c .before .before .record-length .result) (now (c .part-at .result)) ≡ keptIn (now (a .table)) (now (a .boxes)) (now (a .file))
 points-are c =
     let a = c .before .before .before .before .before .before .before .args in
     let run : now (c .part-at .result) ≡ drop (c .before .before .before .before .point-offset .result) (now (a .file)) = c .part-at .ensures ∙ from-place (now (a .file)) _ in
-    rw (kept-in (now (a .table)) (now (a .file)), run, c .before .before .before .before .point-offset .ensures .0, c .before .before .before .format .ensures .0, c .before .before .record-length .ensures .0, c .before .point-count .ensures .0)
+    rw (kept-in (now (a .table)) (now (a .boxes)) (now (a .file)), run, c .before .before .before .before .point-offset .ensures .0, c .before .before .before .format .ensures .0, c .before .before .record-length .ensures .0, c .before .point-count .ensures .0)
 
 -- they begin in the output
-reached : (c : tie.After-part-at) → let a = c .before .before .before .before .before .before .before .args in a .start + length (keptIn (now (a .table)) (now (a .file))) * recordLength (now (a .file)) ≤ length (now (a .out))
-reached c = let s = c .before .before .before .before .before .before .before in let a = s .args in omega (arith, points-end (now (a .table)) (now (a .file)) (a .start), s .pre)
+reached : (c : tie.After-part-at) → let a = c .before .before .before .before .before .before .before .args in a .start + length (keptIn (now (a .table)) (now (a .boxes)) (now (a .file))) * recordLength (now (a .file)) ≤ length (now (a .out))
+reached c = let s = c .before .before .before .before .before .before .before in let a = s .args in omega (arith, points-end (now (a .table)) (now (a .boxes)) (now (a .file)) (a .start), s .pre)
 
 -- the part of an output from a place on has the room behind that place
 lent-room : (l : Bytes) (a n : ℕ) → a + n ≤ length l → n ≤ length (take (length l - a) (drop a l))
@@ -70,7 +71,7 @@ returns c =
     let p = c .before .before .before .before in
     let a = p .before .before .before .before .before .before .before .args in
     let made = c .before .before .copy-points .ensures in
-    (made .0 ∙ rw (points-are p, p .before .before .before .format .ensures .0), points-back (now (a .table)) (now (a .file)) (a .start) (now (a .out)) _ (rw (points-are p) at (made .1)))
+    (made .0 ∙ rw (points-are p, p .before .before .before .format .ensures .0), points-back (now (a .table)) (now (a .boxes)) (now (a .file)) (a .start) (now (a .out)) _ (rw (points-are p) at (made .1)))
 
 pub put-points-spec : {M : Type 1} → statement M
 put-points-spec =

@@ -35,7 +35,7 @@ returns c =
     let s = now (a .file) in
     let points = c .before .before .before .before .before .before .before .put-points in
     let recorded : c .before .before .before .before .before .before .before .before .before .before .before .copy-records .last .1 .1 .0 ≡ sets (now (a .out)) headerBlock (recordsBytes 2 (publicOf (now (a .sheet)) s .records)) = c .before .before .before .before .before .before .before .before .before .before .before .copy-records .ensures in
-    let counted : points .result .count ≡ length (keptIn (now (a .table)) s) = ap (λ (t : Tally). t .count) (points .ensures .0) ∙ tally-count (format s) (keptIn (now (a .table)) s) in
+    let counted : points .result .count ≡ length (keptIn (now (a .table)) (now (a .boxes)) s) = ap (λ (t : Tally). t .count) (points .ensures .0) ∙ tally-count (format s) (keptIn (now (a .table)) (now (a .boxes)) s) in
     (counted, c .before .before .put-head .ensures ∙ rw (c .before .before .before .before .totals-of .ensures, points .ensures .0, points .ensures .1, recorded))
 
 pub write-spec : {M : Type 1} → statement M

@@ -9,7 +9,8 @@ use lib.Seq.{sets}
 use Rattle.fields.proofs.ByteLaws.{length-part}
 use Rattle.fields.proofs.StoreLaws.{stored-whole}
 use Rattle.release.proofs.kept_points.LoopLaws.{lent-record}
-use Rattle.release.proofs.copier.ChosenLaws.{Pasted, place-at, paste-begun, room, paste-turned, paste-done}
+use Rattle.release.proofs.kept_points.PickedLaws.{place-at}
+use Rattle.release.proofs.copier.ChosenLaws.{Pasted, paste-begun, room, paste-turned, paste-done}
 use Rattle.release.proofs.copier.copy_chosen.Statement.{statement}
 use Rattle.release.proofs.copier.copy_chosen.Tie as tie
 

@@ -1,6 +1,7 @@
 -- `copier::copy_front` meets its contract. Assumes nothing.
 use mathlib.Core.Path.{refl, sym, _∙_}
 use denote.Ref.{now}
+use Rattle.sheet.specs.Boxes.{keepsBy}
 use lib.ListN.{length}
 use Rattle.fields.specs.Bytes.{join}
 use Rattle.points.proofs.raw.RunLaws.{InRun, in-run}
@@ -22,7 +23,7 @@ copy-run-requires c κs =
     let s = c .before .before .before .before .before in
     let a = s .args in
     let h = held (c .before) in
-    (h .long, h .few, h .within, rw (kept-held (now (a .table)) (a .format) (a .count) (a .record-length) (now (a .run)) h) at (s .pre))
+    (h .long, h .few, h .within, rw (kept-held (keepsBy (now (a .table)) (now (a .boxes)) (a .format)) (a .count) (a .record-length) (now (a .run)) h) at (s .pre))
 
 fresh-requires : tie.Need-fresh-requires
 fresh-requires c κs = search needs
@@ -34,13 +35,13 @@ returns : tie.Need-returns
 returns c =
     let then = c .before .before .before .before in
     let a = then .before .before .before .before .args in
-    rw (kept-held (now (a .table)) (a .format) (a .count) (a .record-length) (now (a .run)) (held then)) (c .before .before .copy-run .ensures)
+    rw (kept-held (keepsBy (now (a .table)) (now (a .boxes)) (a .format)) (a .count) (a .record-length) (now (a .run)) (held then)) (c .before .before .copy-run .ensures)
 
 returns-2 : tie.Need-returns-2
 unfolding join tallyOf
 returns-2 c =
     let a = c .before .before .before .before .before .args in
-    rw (kept-none (now (a .table)) (a .format) (a .count) (a .record-length) (now (a .run)) (sym (c .before .before .holds .ensures) ∙ c .before .if1 .left)) (c .fresh .ensures, refl)
+    rw (kept-none (keepsBy (now (a .table)) (now (a .boxes)) (a .format)) (a .count) (a .record-length) (now (a .run)) (sym (c .before .before .holds .ensures) ∙ c .before .if1 .left)) (c .fresh .ensures, refl)
 
 pub copy-front-spec : {M : Type 1} → statement M
 copy-front-spec =

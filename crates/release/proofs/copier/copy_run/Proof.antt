@@ -10,7 +10,7 @@ use lib.Seq.{sets, length-sets}
 use Rattle.fields.specs.Bytes.{Bytes, part, join}
 use Rattle.fields.proofs.ByteLaws.{length-part}
 use Rattle.fields.proofs.StoreLaws.{tail-part, lent-back}
-use Rattle.sheet.specs.Keeping.{inTable}
+use Rattle.sheet.specs.Boxes.{keepsBy}
 use Rattle.points.specs.Raw.{pointsOf}
 use Rattle.tally.specs.Tally.{tallyMore}
 use Rattle.release.specs.KeptPoints.{keptOf}
@@ -20,11 +20,11 @@ use Rattle.release.proofs.copier.copy_run.Statement.{statement}
 use Rattle.release.proofs.copier.copy_run.Tie as tie
 
 abbrev Inv-loop : tie.InvT-loop
-Inv-loop run format record-length count table out₀ chosen₀ t₀ at₀ to₀ left₀ out chosen t at to left =
-    Blocked (inTable table format) format record-length count run out₀ out left at to t × (length chosen ≡ 64)
+Inv-loop run format record-length count table boxes out₀ chosen₀ t₀ at₀ to₀ left₀ out chosen t at to left =
+    Blocked (keepsBy table boxes format) format record-length count run out₀ out left at to t × (length chosen ≡ 64)
 
 abbrev μ-loop : tie.MeasureT-loop
-μ-loop run format record-length count table out₀ chosen₀ t₀ at₀ to₀ left₀ out chosen t at to left = left
+μ-loop run format record-length count table boxes out₀ chosen₀ t₀ at₀ to₀ left₀ out chosen t at to left = left
 
 loop-holds : tie.Need-loop-holds Inv-loop μ-loop
 loop-holds c =
@@ -47,7 +47,7 @@ abbrev block-kept : tie.After-least Inv-loop μ-loop → List Bytes
 block-kept c =
     let a = c .before .before .before .before .before .before .args in
     let n = c .least .result in
-    keptOf (now (a .table)) (a .format) n (a .record-length) (part (c .before .before .loop .at) (n * a .record-length) (now (a .run)))
+    keptOf (keepsBy (now (a .table)) (now (a .boxes)) (a .format)) n (a .record-length) (part (c .before .before .loop .at) (n * a .record-length) (now (a .run)))
 
 -- there is room for it
 fits : (c : tie.After-least Inv-loop μ-loop) → c .before .before .loop .to + length (block-kept c) * c .before .before .before .before .before .before .args .record-length ≤ length (now (c .before .before .before .before .before .before .args .out))
@@ -101,7 +101,7 @@ copy-block-requires c κs =
 abbrev after : tie.After-slice-known2 Inv-loop μ-loop → Bytes
 after d =
     let l = d .before .before .before .before .before .before .before .before .before .loop in
-    take (l .to) (l .out) ++ (d .before .before .before .copy-block .last .1 .1 .1 .1 .1 .1 .0 ++ drop (length (l .out) - l .to) (drop (l .to) (l .out)))
+    take (l .to) (l .out) ++ (d .before .before .before .copy-block .last .1 .1 .1 .1 .1 .1 .1 .0 ++ drop (length (l .out) - l .to) (drop (l .to) (l .out)))
 
 copied : (d : tie.After-slice-known2 Inv-loop μ-loop) → d .before .before .before .copy-block .result ≡ length (block-kept (d .before .before .before .before .before .before .before))
 copied d =
@@ -109,7 +109,7 @@ copied d =
     let a = turn .before .before .before .before .before .before .args in
     let n = turn .least .result in
     d .before .before .before .copy-block .ensures .0
-    ∙ ap (λ (x : Bytes). length (keptOf (now (a .table)) (a .format) n (a .record-length) x)) (lent-record (turn .before .before .loop .at) (n * a .record-length) (now (a .run)))
+    ∙ ap (λ (x : Bytes). length (keptOf (keepsBy (now (a .table)) (now (a .boxes)) (a .format)) n (a .record-length) x)) (lent-record (turn .before .before .loop .at) (n * a .record-length) (now (a .run)))
 
 stands : (d : tie.After-slice-known2 Inv-loop μ-loop) → after d ≡ sets (d .before .before .before .before .before .before .before .before .before .loop .out) (d .before .before .before .before .before .before .before .before .before .loop .to) (join (block-kept (d .before .before .before .before .before .before .before)))
 stands d =
@@ -119,7 +119,7 @@ stands d =
     let n = turn .least .result in
     lent-back (l .out) _ (l .to) (join (block-kept turn))
     (d .before .before .before .copy-block .ensures .1
-    ∙ ap (λ (x : Bytes). sets (take (length (l .out) - l .to) (drop (l .to) (l .out))) 0 (join (keptOf (now (a .table)) (a .format) n (a .record-length) x))) (lent-record (l .at) (n * a .record-length) (now (a .run))))
+    ∙ ap (λ (x : Bytes). sets (take (length (l .out) - l .to) (drop (l .to) (l .out))) 0 (join (keptOf (keepsBy (now (a .table)) (now (a .boxes)) (a .format)) n (a .record-length) x))) (lent-record (l .at) (n * a .record-length) (now (a .run))))
 
 long-after : (d : tie.After-slice-known2 Inv-loop μ-loop) → length (after d) ≡ length (now (d .before .before .before .before .before .before .before .before .before .before .before .before .before .args .out))
 long-after d = rw (stands d, length-sets) (d .before .before .before .before .before .before .before .before .before .loop .inv .0 .same)
@@ -156,7 +156,7 @@ loop-again c =
     let more : c .tally-more .result ≡ tallyMore (a .format) (l .t) (pointsOf k (a .record-length) (drop (l .to) (after d))) =
     c .tally-more .ensures ∙ ap (λ (x : Bytes). tallyMore (a .format) (l .t) (pointsOf k (a .record-length) x)) (tail-part (after d) (l .to)) in (
       blocks-next _ _ _ _ _ _ (s .pre .3) (s .pre .1) (s .pre .0) (l .out) (l .left) (l .at) (l .to) (l .t) (l .inv .0) (turn .least .result) (some turn .1) (after d) (stands d) k (copied d) _ more,
-      d .before .before .before .copy-block .kept .1 .1 .1 .1 .1 .0 ∙ l .inv .1,
+      d .before .before .before .copy-block .kept .1 .1 .1 .1 .1 .1 .0 ∙ l .inv .1,
     )
 
 same-length : tie.Need-same-length Inv-loop μ-loop

@@ -14,7 +14,7 @@ returns : tie.Need-returns
 returns c =
     let a = c .before .before .before .args in
     let bytes : AllBytes (now (a .file)) = λ i. omega (arith, c .before .before .shared-slice-known .given i) in
-    by-table (now (a .sheet)) (now (a .file)) bytes (c .table-for .result) (c .table-for .ensures)
+    λ boxes read. by-table (now (a .sheet)) (now (a .file)) bytes (c .table-for .result) (c .table-for .ensures) boxes read
 
 pub table-of-spec : {M : Type 1} → statement M
 table-of-spec = tie.close (tie.spec table-for-requires returns)

@@ -1,102 +1,67 @@
--- `kept_points::choose` meets its contract. The loop's invariant is `Chosen`. Assumes nothing.
-use mathlib.Core.Path.{_≡_, ap, _∙_}
-use Prim.Native.Nat.{_+_, _-_, _≤_}
+-- `kept_points::choose` meets its contract: boxes are asked of what the table keeps. Assumes nothing.
+use mathlib.Core.Path.{_≡_, sym, ap, _∙_}
 use native.Mathlib.Omega.{arith}
+use Prim.Native.Nat.{ℕ}
+use mathlib.Core.Bool.{Bool, true, and-true}
+use mathlib.Core.List.{List}
 use borrow.Author.Needs.{needs}
 use denote.Ref.{now}
-use lib.ListN.{length, take, drop}
+use lib.Dec.{eqb}
+use lib.IntN.{ℤ}
+use Rattle.fields.specs.Lists.{kept}
+use Rattle.fields.specs.Bytes.{Bytes, pieces}
+use Rattle.fields.proofs.ListLaws.{kept-same, kept-both, all-of}
 use Rattle.sheet.specs.Keeping.{inTable}
-use Rattle.release.proofs.kept_points.LoopLaws.{lent-record, ends}
-use Rattle.release.proofs.kept_points.ChooseLaws.{Chosen, choose-begun, choose-next, choose-ended}
+use Rattle.sheet.specs.Boxes.{boxCount, inBoxes, keepsBy}
 use Rattle.release.proofs.kept_points.choose.Statement.{statement}
 use Rattle.release.proofs.kept_points.choose.Tie as tie
 
-abbrev Inv-loop : tie.InvT-loop
-Inv-loop block format record-length n table chosen₀ at₀ k₀ left₀ chosen at k left = Chosen (inTable table format) record-length n block chosen₀ chosen left at k
+choose-by-table-requires : tie.Need-choose-by-table-requires
+choose-by-table-requires c κs = search needs
 
-abbrev μ-loop : tie.MeasureT-loop
-μ-loop block format record-length n table chosen₀ at₀ k₀ left₀ chosen at k left = left
+no-box-requires : tie.Need-no-box-requires
+no-box-requires c κs = search needs
 
-loop-holds : tie.Need-loop-holds Inv-loop μ-loop
-loop-holds c = choose-begun _ _ _ _ _ (c .before .before .pre .1) (c .before .before .pre .2)
+same-length : tie.Need-same-length
+same-length c = search needs
 
-inside : (c : tie.In-loop Inv-loop μ-loop) → c .before .loop .at + c .before .before .before .before .args .record-length ≤ length (now (c .before .before .before .before .args .block))
-inside c = omega (arith, ends _ _ _ _ _ (c .before .loop .left) (c .before .loop .at) (c .loop-test .taken) (c .before .loop .inv .looked))
+-- with no box the table decides
+by-table : (table : List Bool) (boxes : List ℤ) (f : ℕ) → eqb (boxCount boxes) 0 ≡ true → (p : Bytes) → inTable table f p ≡ keepsBy table boxes f p
+unfolding keepsBy inBoxes
+by-table table boxes f none p = rw none (sym (and-true (inTable table f p)))
 
-add-next : tie.Need-add-next Inv-loop μ-loop
-add-next c = omega (arith, inside c)
-
-mul-chosen : tie.Need-mul-chosen Inv-loop μ-loop
-mul-chosen c =
-    let l = c .before .loop in
-    omega (arith, l .inv .few, c .before .before .before .before .pre .0, c .loop-test .taken)
-
-slice-write-chosen : tie.Need-slice-write-chosen Inv-loop μ-loop
-slice-write-chosen c =
-    let l = c .before .loop in
-    omega (arith, l .inv .few, l .inv .size, c .before .before .before .before .pre .1, c .loop-test .taken)
-
-sub-in-table : tie.Need-sub-in-table Inv-loop μ-loop
-sub-in-table c = search needs
-
-part-in-table-start : tie.Need-part-in-table-start Inv-loop μ-loop
-part-in-table-start c = search needs
-
-part-in-table-end : tie.Need-part-in-table-end Inv-loop μ-loop
-part-in-table-end c = omega (arith, inside c)
-
-add-k : tie.Need-add-k Inv-loop μ-loop
-add-k c =
-    let turn = c .before .before .before in
-    let l = turn .before .loop in
-    omega (arith, l .inv .few, c .one-if .ensures .1, turn .loop-test .taken, turn .before .before .before .before .pre .0)
-
-sub-left : tie.Need-sub-left Inv-loop μ-loop
-sub-left c = omega arith
-
-loop-less : tie.Need-loop-less Inv-loop μ-loop
-loop-less c = omega arith
-
-loop-again : tie.Need-loop-again Inv-loop μ-loop
-loop-again c =
-    let turn = c .before .before .before in
-    let s = turn .before .before .before .before in
-    let a = s .args in
-    let l = turn .before .loop in
-    let keep = inTable (now (a .table)) (a .format) in
-    let lent = take (l .at + a .record-length - l .at) (drop (l .at) (now (a .block))) in
-    let kept : c .before .in-table .result ≡ keep lent = c .before .in-table .ensures in
-    rw (c .one-if .ensures .0)
-    (choose-next keep (a .record-length) (a .n) (now (a .block)) (now (a .chosen)) (s .pre .1) (l .chosen) (l .left) (l .at) (l .k) (turn .loop-test .taken) (l .inv) _
-    (kept ∙ ap keep (lent-record (l .at) (a .record-length) (now (a .block)))))
-
-same-length : tie.Need-same-length Inv-loop μ-loop
-same-length c = c .before .loop .inv .size
-
-returns : tie.Need-returns Inv-loop μ-loop
+returns : tie.Need-returns
 returns c =
-    let s = c .before .before .before .before in
-    let l = c .before .loop in
-    choose-ended _ _ _ _ _ (s .pre .1) (l .chosen) (l .left) (l .at) (l .k) (omega arith) (l .inv)
+    let k = c .before .before .before .before in
+    let a = k .before .before .before .before .args in
+    let e = k .choose-by-table .ensures in
+    let none : eqb (boxCount (now (a .boxes))) 0 ≡ true = sym (c .before .no-box .ensures) ∙ c .if1 .taken in
+    let ps = pieces (a .n) (a .record-length) (now (a .block)) in
+    let same = kept-same (inTable (now (a .table)) (a .format)) (keepsBy (now (a .table)) (now (a .boxes)) (a .format)) ps (all-of _ ps (by-table (now (a .table)) (now (a .boxes)) (a .format) none)) in
+    (e .0, e .1 ∙ same, e .2)
+
+choose-in-boxes-requires : tie.Need-choose-in-boxes-requires
+choose-in-boxes-requires c κs =
+    let k = c .before .before .before .before .before in
+    let s = k .before .before .before .before in
+    let call = k .choose-by-table in
+    (omega (arith, call .ensures .0, s .pre .0), omega (arith, call .ensures .0, call .kept .1 .1 .1 .1 .1 .0, s .pre .1), call .ensures .2)
+
+same-length-2 : tie.Need-same-length-2
+same-length-2 c = search needs
+
+returns-2 : tie.Need-returns-2
+returns-2 c =
+    let k = c .before .before .before .before .before .before .before .before in
+    let a = k .before .before .before .before .args in
+    let e = k .choose-by-table .ensures in
+    let f = c .before .before .choose-in-boxes .ensures in
+    let keep = inBoxes (now (a .boxes)) in
+    let both : kept keep (kept (inTable (now (a .table)) (a .format)) (pieces (a .n) (a .record-length) (now (a .block)))) ≡ kept (keepsBy (now (a .table)) (now (a .boxes)) (a .format)) (pieces (a .n) (a .record-length) (now (a .block))) =
+    unfold keepsBy in kept-both keep (inTable (now (a .table)) (a .format)) (pieces (a .n) (a .record-length) (now (a .block))) in
+    (omega (arith, e .0, f .0), f .1 ∙ ap (kept keep) (e .1) ∙ both, f .2)
 
 pub choose-spec : {M : Type 1} → statement M
 choose-spec =
     tie.close
-    (tie.spec
-    Inv-loop
-    μ-loop
-    loop-holds
-    add-next
-    mul-chosen
-    slice-write-chosen
-    sub-in-table
-    part-in-table-start
-    part-in-table-end
-    (λ c κs. tt)
-    (λ c κs. tt)
-    add-k
-    sub-left
-    loop-less
-    loop-again
-    same-length
-    returns)
+    (tie.spec choose-by-table-requires no-box-requires same-length returns choose-in-boxes-requires same-length-2 returns-2)

@@ -1,6 +1,7 @@
 -- `kept_points::count_points` meets its contract. Assumes nothing.
 use mathlib.Core.Path.{sym, ap, _∙_}
 use denote.Ref.{now}
+use Rattle.sheet.specs.Boxes.{keepsBy}
 use lib.ListN.{length}
 use Rattle.points.proofs.raw.RunLaws.{InRun, in-run}
 use Rattle.release.proofs.kept_points.KeptPointLaws.{kept-held, kept-none}
@@ -17,12 +18,12 @@ count-run-requires c κs = held c .within
 returns : tie.Need-returns
 returns c =
     let a = c .before .before .before .before .args in
-    rw (kept-held (now (a .table)) (a .format) (a .count) (a .record-length) (now (a .run)) (held (c .before))) (c .count-run .ensures)
+    rw (kept-held (keepsBy (now (a .table)) (now (a .boxes)) (a .format)) (a .count) (a .record-length) (now (a .run)) (held (c .before))) (c .count-run .ensures)
 
 returns-2 : tie.Need-returns-2
 returns-2 c =
     let a = c .before .before .before .args in
-    sym (ap length (kept-none (now (a .table)) (a .format) (a .count) (a .record-length) (now (a .run)) (sym (c .before .holds .ensures) ∙ c .if1 .left)))
+    sym (ap length (kept-none (keepsBy (now (a .table)) (now (a .boxes)) (a .format)) (a .count) (a .record-length) (now (a .run)) (sym (c .before .holds .ensures) ∙ c .if1 .left)))
 
 pub count-points-spec : {M : Type 1} → statement M
 count-points-spec = tie.close (tie.spec (λ c κs. tt) count-run-requires returns returns-2)
