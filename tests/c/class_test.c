@@ -4,10 +4,11 @@
 
 #include "holds.h"
 
-/* Lines of a sheet: for the classes from `low` to `high`, and for a record. The user ID of the record begins with what
- * would be a range of all classes on a line of the other kind. */
+/* Lines of a sheet: for the classes from `low` to `high`, for a record, and a box. The user ID of the record and the
+ * values of the box begin with what would be a range of all classes on a line of the first kind. */
 #define CLASSES(low, high) "KS\1" low high
 #define RECORD "KS\2\0\377someone\0\0\0\0\0\0\0\7\0"
+#define BOX "KS\3\0\377\0\0\0\377\0\0\2\2\2\2\2\2\2\2\2\2\2\2\2\2\2\2"
 
 /* The length of a sheet that is written as a string. */
 #define LENGTH(sheet) (sizeof(sheet) - 1)
@@ -62,6 +63,23 @@ static void places(void)
     HOLDS(held_by_none(6, asked(sheet, length, 255)));
 }
 
+/* A box counts as any other line, and holds no class. */
+static void boxes(void)
+{
+    static const char sheet[] = BOX CLASSES("\2", "\5") BOX RECORD BOX CLASSES("\6", "\6") BOX;
+    const uint64_t length = LENGTH(sheet);
+
+    HOLDS(LENGTH(BOX) == 27);
+    HOLDS(held_by(2, asked(sheet, length, 2)));
+    HOLDS(held_by(2, asked(sheet, length, 5)));
+    HOLDS(held_by(6, asked(sheet, length, 6)));
+    HOLDS(held_by_none(7, asked(sheet, length, 0)));
+    HOLDS(held_by_none(7, asked(sheet, length, 7)));
+    HOLDS(held_by_none(7, asked(sheet, length, 255)));
+    HOLDS(held_by_none(1, asked(BOX, LENGTH(BOX), 2)));
+    HOLDS(held_by_none(2, asked(BOX BOX, 2 * LENGTH(BOX), 0)));
+}
+
 static void few_lines(void)
 {
     HOLDS(held_by_none(0, las_class_test(NULL, 0, 2)));
@@ -97,9 +115,10 @@ static void faults(void)
 {
     static const char good[] = CLASSES("\2", "\2") CLASSES("\3", "\3");
     static const char mark[] = CLASSES("\2", "\2") "KT\1\3\3";
-    static const char kind[] = CLASSES("\2", "\2") "KS\3\3\3";
+    static const char kind[] = CLASSES("\2", "\2") "KS\4\3\3";
     static const char reversed[] = CLASSES("\2", "\2") CLASSES("\4", "\3");
-    static const char several[] = CLASSES("\2", "\2") "KS\3" CLASSES("\4", "\3") "KT\1";
+    static const char several[] = CLASSES("\2", "\2") "KS\4" CLASSES("\4", "\3") "KT\1";
+    static const char boxed[] = CLASSES("\2", "\2") BOX;
 
     HOLDS(held_by(1, asked(good, LENGTH(good), 2)));
     HOLDS(refused(20, asked(mark, LENGTH(mark), 2)));
@@ -107,6 +126,8 @@ static void faults(void)
     HOLDS(refused(22, asked(good, LENGTH(good) - 1, 2)));
     HOLDS(refused(22, asked(good, LENGTH(good) - 3, 2)));
     HOLDS(refused(23, asked(reversed, LENGTH(reversed), 2)));
+    HOLDS(held_by(1, asked(boxed, LENGTH(boxed), 2)));
+    HOLDS(refused(22, asked(boxed, LENGTH(boxed) - 1, 2)));
     HOLDS(refused(21, asked(several, LENGTH(several), 2)));
     HOLDS(refused(21, asked(several, LENGTH(several), 9)));
 }
@@ -114,6 +135,7 @@ static void faults(void)
 int main(void)
 {
     places();
+    boxes();
     few_lines();
     most_lines();
     faults();

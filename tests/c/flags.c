@@ -166,7 +166,7 @@ static void mends(void)
 
 int main(void)
 {
-    HOLDS(las_level() == 6);
+    HOLDS(las_level() == 7);
     reads();
     writes();
     classes();

@@ -195,7 +195,7 @@ static void others(void)
 
     HOLDS(las_coordinate(-1, 0x3FE0000000000000, 0x4024000000000000) == 0x4023000000000000);
     HOLDS(las_coordinate(1, 0xFFF0000000000001, 0) == 0x7FF8000000000000);
-    HOLDS(las_level() == 6);
+    HOLDS(las_level() == 7);
 }
 
 int main(void)

@@ -1,5 +1,5 @@
 #!/usr/bin/env bash
-# Tries the header and the static library as a C caller would: the header as C and as C++, and eight programs over the
+# Tries the header and the static library as a C caller would: the header as C and as C++, and nine programs over the
 # library.
 # Usage: tests/c/run.sh LIBDIR, the folder with libcapi.a; its last line is 'N passed, M failed'.
 set -u
@@ -65,6 +65,7 @@ holds "flags.c" cc -std=c99 "${strict[@]}" -I"$include" "$here/flags.c" "$librar
 holds "class_test.c" cc -std=c99 "${strict[@]}" -I"$include" "$here/class_test.c" "$library" -o "$scratch/class_test"
 holds "lists.c" cc -std=c99 "${strict[@]}" -I"$include" "$here/lists.c" "$library" -o "$scratch/lists"
 holds "halving.c" cc -std=c99 "${strict[@]}" -I"$include" "$here/halving.c" "$library" -o "$scratch/halving"
+holds "boxes.c" cc -std=c99 "${strict[@]}" -I"$include" "$here/boxes.c" "$library" -o "$scratch/boxes"
 # the lines of the README, with what they take for granted around them: a card's scan and its sheet
 {
     printf '%s\n' '#include "korbishaf.h"' '#include <stdio.h>' '#include <stdlib.h>' 'int main(void) {' \
@@ -95,6 +96,7 @@ add "$scratch/flags"
 add "$scratch/class_test"
 add "$scratch/lists"
 add "$scratch/halving"
+add "$scratch/boxes"
 
 echo "$passed passed, $failed failed"
 [ "$failed" -eq 0 ]
