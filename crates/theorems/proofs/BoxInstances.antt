@@ -18,7 +18,7 @@ use Rattle.publicpart.specs.Public.{carriedOf, contents, publicOf}
 use Rattle.theorems.specs.Terms.{Good, needed, Accepted}
 use Rattle.theorems.specs.Sheets.{SomeLine, SameLines}
 use Rattle.theorems.specs.Boxes.{insideOf, Encloses, Everything}
-use Rattle.theorems.specs.Samples.{sheet3, point7, file9}
+use Rattle.theorems.specs.Samples.{sheet3, point7}
 use Rattle.theorems.specs.Instances.{filled, first9}
 use Rattle.theorems.specs.BoxInstances.{box7, boxAll, sheetBox, sheetAll, sheetTurned, beside9, BoxesMet, AnyOrderMet}
 use Rattle.theorems.proofs.Demand3.{demand3}

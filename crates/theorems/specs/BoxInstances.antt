@@ -5,7 +5,7 @@ use mathlib.Core.Path.{_≡_}
 use Prim.Native.Nat.{ℕ}
 use mathlib.Core.Bool.{true, false}
 use mathlib.Core.List.{[], _∷_, _++_}
-use lib.ListN.{take, drop, length}
+use lib.ListN.{take, drop}
 use Rattle.fields.specs.Lists.{All}
 use Rattle.fields.specs.Bytes.{Bytes}
 use Rattle.sheet.specs.Sheet.{kind, lines}

@@ -29,7 +29,7 @@ use Rattle.reader.specs.Steps.{stepChecks, recordPlaces, stepOf, visited}
 use Rattle.reader.specs.declared.cursor.Step.the-variants.{Refused}
 use Rattle.reader.specs.OnePoint.{pointChecks}
 use Rattle.sheet.specs.Sheet.{kind, lowest, highest, userID, recordID, lines}
-use Rattle.sheet.specs.Keeping.{containsClass, keepsClass, keepsPoint, keepsRecord, linesFor, classTest}
+use Rattle.sheet.specs.Keeping.{containsClass, keepsPoint, keepsRecord, linesFor, classTest}
 use Rattle.sheet.specs.declared.answers.Tested.the-variants as tested
 use Rattle.lasfile.specs.HeaderFields.{format, pointCount}
 use Rattle.publicpart.specs.Public.{contents, publicOf}

@@ -5,7 +5,7 @@ use mathlib.Core.Logic.{_↔_}
 use Prim.Native.Nat.{ℕ, zero, suc, _≤_}
 use native.Mathlib.Omega.{arith}
 use borrow.Author.Tests.{eqb-true, eq-eqb}
-use mathlib.Core.Bool.{Bool, true, false, not, _&&_, _||_, and-eq-true-iff, or-true}
+use mathlib.Core.Bool.{Bool, true, false, not, _||_, and-eq-true-iff}
 use mathlib.Core.List.{List, [], _∷_, List·Memᴰ, List·Memᴰ·head, List·Memᴰ·tail}
 use lib.Dec.{T, leb, eqb, leb→le, le→leb}
 use lib.IntN.{ℤ, pos, negsuc}
@@ -15,7 +15,7 @@ use mir.Val.{SFits}
 use Rattle.fields.specs.Lists.{All, anyOf}
 use Rattle.fields.specs.Bytes.{Bytes}
 use Rattle.fields.proofs.ListLaws.{kept-pass}
-use Rattle.points.specs.Raw.{stored, classOf, withheldOf}
+use Rattle.points.specs.Raw.{stored, classOf}
 use Rattle.points.proofs.raw.RawLaws.{stored-fits}
 use Rattle.lasfile.specs.HeaderFields.{format}
 use Rattle.sheet.specs.Sheet.{kind, low, high, onEveryAxis, lines}
@@ -28,7 +28,7 @@ use Rattle.theorems.specs.Boxes.{Inside, KeptByBoxes, insideOf, NoneOuts
 use Rattle.theorems.proofs.ReleasedFile.{complete}
 use Rattle.theorems.proofs.Classes.{same-part}
 use Rattle.theorems.proofs.sheet.KeepingLaws.{all-three, kept-by-lines, some-says}
-use Rattle.theorems.proofs.sheet.OrderLaws.{implied, some-true}
+use Rattle.theorems.proofs.sheet.OrderLaws.{implied}
 
 -- ---- inside a box
 

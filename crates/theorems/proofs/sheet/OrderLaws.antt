@@ -1,14 +1,12 @@
 -- What a sheet keeps depends on the set of its lines.
 -- Assumes nothing.
-use mathlib.Core.Path.{_≡_, refl, sym, ap, _∙_}
+use mathlib.Core.Path.{_≡_, refl, sym, _∙_}
 use mathlib.Core.Logic.{_↔_}
 use Prim.Native.Nat.{ℕ}
-use native.Mathlib.Omega.{arith}
 use mathlib.Core.Bool.{Bool, true, false, not, _||_}
 use mathlib.Core.List.{List, List·Memᴰ}
 use Rattle.fields.specs.Lists.{anyOf, kept}
 use Rattle.fields.specs.Bytes.{Bytes}
-use Rattle.fields.specs.Checks.{then}
 use Rattle.fields.specs.declared.Verdict.the-variants.{Passes}
 use Rattle.fields.proofs.ListLaws.{kept-same, all-of}
 use Rattle.lasfile.specs.HeaderFields.{format}
@@ -17,9 +15,9 @@ use Rattle.sheet.specs.Sheet.{lines, sheetVerdict}
 use Rattle.sheet.specs.Keeping.{containsClass, isBox, containsPoint, namesRecord, keepsClass, hasBox, keepsPlace, keepsPoint, keepsRecord}
 use Rattle.sheet.proofs.class_table.ClassLaws.{keeps-to-31}
 use Rattle.publicpart.specs.Public.{contents, sheetKeeps, publicOf}
-use Rattle.publicpart.specs.Release.{release, refuseOr}
+use Rattle.publicpart.specs.Release.{release}
 use Rattle.publicpart.proofs.PublicLaws.{public-carried, public-records, public-points}
-use Rattle.theorems.specs.Sheets.{SomeLine, SameLines, KeepAlike, AnyOrder}
+use Rattle.theorems.specs.Sheets.{SomeLine, SameLines, AnyOrder}
 use Rattle.theorems.proofs.sheet.KeepingLaws.{some-says}
 
 -- ---- some line passes a test

@@ -16,15 +16,6 @@ use Rattle.sheet.specs.Boxes.{boxCount, inBoxes, keepsBy}
 use Rattle.release.proofs.kept_points.choose.Statement.{statement}
 use Rattle.release.proofs.kept_points.choose.Tie as tie
 
-choose-by-table-requires : tie.Need-choose-by-table-requires
-choose-by-table-requires c κs = search needs
-
-no-box-requires : tie.Need-no-box-requires
-no-box-requires c κs = search needs
-
-same-length : tie.Need-same-length
-same-length c = search needs
-
 -- with no box the table decides
 by-table : (table : List Bool) (boxes : List ℤ) (f : ℕ) → eqb (boxCount boxes) 0 ≡ true → (p : Bytes) → inTable table f p ≡ keepsBy table boxes f p
 unfolding keepsBy inBoxes
@@ -47,9 +38,6 @@ choose-in-boxes-requires c κs =
     let call = k .choose-by-table in
     (omega (arith, call .ensures .0, s .pre .0), omega (arith, call .ensures .0, call .kept .1 .1 .1 .1 .1 .0, s .pre .1), call .ensures .2)
 
-same-length-2 : tie.Need-same-length-2
-same-length-2 c = search needs
-
 returns-2 : tie.Need-returns-2
 returns-2 c =
     let k = c .before .before .before .before .before .before .before .before in
@@ -64,4 +52,4 @@ returns-2 c =
 pub choose-spec : {M : Type 1} → statement M
 choose-spec =
     tie.close
-    (tie.spec choose-by-table-requires no-box-requires same-length returns choose-in-boxes-requires same-length-2 returns-2)
+    (tie.spec (λ c κs. search needs) (λ c κs. tt) (λ c. search needs) returns choose-in-boxes-requires (λ c. search needs) returns-2)

@@ -1,5 +1,5 @@
 -- `kept_points::choose_in_boxes` meets its contract. The loop's invariant is `Staying`. Assumes nothing.
-use mathlib.Core.Path.{_≡_, refl, sym, ap, _∙_}
+use mathlib.Core.Path.{_≡_, ap, _∙_}
 use native.Mathlib.Omega.{arith}
 use borrow.Author.Needs.{needs}
 use denote.Ref.{now}
@@ -51,20 +51,8 @@ mul-chosen c = omega (arith, among (c .before))
 slice-write-chosen : tie.Need-slice-write-chosen Inv-loop μ-loop
 slice-write-chosen c = omega (arith, among (c .before))
 
-sub-in-boxes : tie.Need-sub-in-boxes Inv-loop μ-loop
-sub-in-boxes c = search needs
-
-part-in-boxes-start : tie.Need-part-in-boxes-start Inv-loop μ-loop
-part-in-boxes-start c = search needs
-
 part-in-boxes-end : tie.Need-part-in-boxes-end Inv-loop μ-loop
 part-in-boxes-end c = omega (arith, inside (c .before))
-
-in-boxes-requires : tie.Need-in-boxes-requires Inv-loop μ-loop
-in-boxes-requires c κs = search needs
-
-one-if-requires : tie.Need-one-if-requires Inv-loop μ-loop
-one-if-requires c κs = search needs
 
 add-m : tie.Need-add-m Inv-loop μ-loop
 add-m c = let turn = c .before .before .before .before in omega (arith, among turn, c .one-if .ensures .1)
@@ -98,4 +86,4 @@ returns c =
     stay-ended _ _ _ _ _ (l .chosen) (l .m) (l .j) (omega arith) (l .inv)
 
 pub choose-in-boxes-spec : {M : Type 1} → statement M
-choose-in-boxes-spec = tie.close (tie.spec Inv-loop μ-loop loop-holds mul-at slice-read-at add-end mul-chosen slice-write-chosen sub-in-boxes part-in-boxes-start part-in-boxes-end in-boxes-requires one-if-requires add-m add-j loop-less loop-again same-length returns)
+choose-in-boxes-spec = tie.close (tie.spec Inv-loop μ-loop loop-holds mul-at slice-read-at add-end mul-chosen slice-write-chosen (λ c. search needs) (λ c. search needs) part-in-boxes-end (λ c κs. tt) (λ c κs. tt) add-m add-j loop-less loop-again same-length returns)

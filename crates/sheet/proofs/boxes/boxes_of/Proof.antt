@@ -1,5 +1,5 @@
 -- `boxes::boxes_of` meets its contract. Assumes nothing.
-use mathlib.Core.Path.{_≡_, refl, sym, ap, _∙_}
+use mathlib.Core.Path.{_≡_, refl, sym, _∙_}
 use native.Mathlib.Omega.{arith}
 use borrow.Author.Needs.{needs}
 use denote.Ref.{now}
@@ -50,17 +50,11 @@ ended c false e =
 loop-holds : tie.Need-loop-holds Inv-loop μ-loop
 loop-holds c = (read-begun _, refl)
 
-first-line-requires : tie.Need-first-line-requires Inv-loop μ-loop
-first-line-requires c κs = search needs
-
 slice-aggregate-take-line : tie.Need-slice-aggregate-take-line Inv-loop μ-loop
 slice-aggregate-take-line c = sym (c .before .before .before .loop .inv .1)
 
 take-line-requires : tie.Need-take-line-requires Inv-loop μ-loop
 take-line-requires c κs = let l = c .before .before .before .loop in (omega (arith, l .inv .0 .few, turning (c .before .before) .1), l .inv .1)
-
-after-line-requires : tie.Need-after-line-requires Inv-loop μ-loop
-after-line-requires c κs = search needs
 
 sub-left : tie.Need-sub-left Inv-loop μ-loop
 sub-left c = turning (c .before .before .before .before .before) .1
@@ -80,11 +74,8 @@ loop-again c =
 cast-boxes : tie.Need-cast-boxes Inv-loop μ-loop
 cast-boxes c = record { sfits = omega (arith, c .before .loop .inv .0 .few) }
 
-array-set-from-boxes : tie.Need-array-set-from-boxes Inv-loop μ-loop
-array-set-from-boxes c = search needs
-
 returns : tie.Need-returns Inv-loop μ-loop
 returns c = ended c (ltb 0 (c .before .loop .left)) refl
 
 pub boxes-of-spec : {M : Type 1} → statement M
-boxes-of-spec = tie.close (tie.spec Inv-loop μ-loop loop-holds first-line-requires slice-aggregate-take-line take-line-requires after-line-requires sub-left loop-less loop-again cast-boxes array-set-from-boxes returns)
+boxes-of-spec = tie.close (tie.spec Inv-loop μ-loop loop-holds (λ c κs. tt) slice-aggregate-take-line take-line-requires (λ c κs. tt) sub-left loop-less loop-again cast-boxes (λ c. search needs) returns)

@@ -1,23 +1,11 @@
 -- `boxes::in_box` meets its contract. Assumes nothing.
-use mathlib.Core.Path.{_≡_, refl, sym, ap, _∙_}
-use native.Mathlib.Omega.{arith}
 use borrow.Author.Needs.{needs}
-use denote.Ref.{now}
 use mir.Syntax.{w32}
 use mir.ValLaws.{toZ-ofZ}
 use Rattle.sheet.specs.Sheet.{onEveryAxis}
 use Rattle.sheet.specs.Boxes.{inBoxAt}
 use Rattle.sheet.proofs.boxes.in_box.Statement.{statement}
 use Rattle.sheet.proofs.boxes.in_box.Tie as tie
-
-in-axis-requires : tie.Need-in-axis-requires
-in-axis-requires c κs = search needs
-
-in-axis-requires-2 : tie.Need-in-axis-requires-2
-in-axis-requires-2 c κs = search needs
-
-in-axis-requires-3 : tie.Need-in-axis-requires-3
-in-axis-requires-3 c κs = search needs
 
 returns : tie.Need-returns
 unfolding inBoxAt onEveryAxis
@@ -37,4 +25,4 @@ returns c = λ at x y z.
     )
 
 pub in-box-spec : {M : Type 1} → statement M
-in-box-spec = tie.close (tie.spec in-axis-requires in-axis-requires-2 in-axis-requires-3 returns)
+in-box-spec = tie.close (tie.spec (λ c κs. search needs) (λ c κs. search needs) (λ c κs. search needs) returns)

@@ -1,9 +1,7 @@
 -- `boxes::in_boxes` meets its contract: each stored value comes back from its bits. Assumes nothing.
 use mathlib.Core.Path.{_≡_, sym, ap, _∙_}
 use Prim.Native.Nat.{ℕ}
-use mathlib.Core.Bool.{_||_}
 use denote.Ref.{now}
-use lib.Dec.{eqb}
 use lib.IntN.{ℤ}
 use mir.Syntax.{w32}
 use mir.Val.{toZ, ofZ}
@@ -12,7 +10,7 @@ use Rattle.fields.specs.Bytes.{Bytes}
 use Rattle.points.specs.Raw.{stored, storedOf}
 use Rattle.points.specs.declared.raw.Stored.{Stored}
 use Rattle.points.proofs.raw.RawLaws.{stored-fits}
-use Rattle.sheet.specs.Boxes.{boxCount, inFirst, inBoxes}
+use Rattle.sheet.specs.Boxes.{inBoxes}
 use Rattle.sheet.proofs.boxes.in_boxes.Statement.{statement}
 use Rattle.sheet.proofs.boxes.in_boxes.Tie as tie
 

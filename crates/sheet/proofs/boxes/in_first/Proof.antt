@@ -1,8 +1,7 @@
 -- `boxes::in_first` meets its contract. Assumes nothing.
-use mathlib.Core.Path.{_≡_, refl, sym, ap, _∙_}
+use mathlib.Core.Path.{_≡_, refl, sym, _∙_}
 use native.Mathlib.Omega.{arith}
 use borrow.Author.Needs.{needs}
-use denote.Ref.{now}
 use Prim.Native.Nat.{suc, _+_, _-_, _≤_}
 use mathlib.Core.Bool.{_||_}
 use mir.Syntax.{w32}
@@ -21,12 +20,6 @@ abbrev μ-loop : tie.MeasureT-loop
 loop-holds : tie.Need-loop-holds Inv-loop μ-loop
 unfolding inFirst
 loop-holds c = (omega arith, λ at x y z. refl)
-
-in-box-requires : tie.Need-in-box-requires Inv-loop μ-loop
-in-box-requires c κs = search needs
-
-add-j : tie.Need-add-j Inv-loop μ-loop
-add-j c = search needs
 
 loop-less : tie.Need-loop-less Inv-loop μ-loop
 loop-less c = omega arith
@@ -48,4 +41,4 @@ returns c =
     ∙ rw all
 
 pub in-first-spec : {M : Type 1} → statement M
-in-first-spec = tie.close (tie.spec Inv-loop μ-loop loop-holds in-box-requires add-j loop-less loop-again returns)
+in-first-spec = tie.close (tie.spec Inv-loop μ-loop loop-holds (λ c κs. search needs) (λ c. search needs) loop-less loop-again returns)

@@ -1,5 +1,5 @@
 -- `boxes::put_box` meets its contract. Assumes nothing.
-use mathlib.Core.Path.{_≡_, refl, sym, ap, _∙_}
+use mathlib.Core.Path.{_≡_, sym, _∙_}
 use native.Mathlib.Omega.{arith}
 use borrow.Author.Needs.{needs}
 use denote.Ref.{now}
@@ -26,24 +26,6 @@ abbrev μ-loop : tie.MeasureT-loop
 loop-holds : tie.Need-loop-holds Inv-loop μ-loop
 loop-holds c = (omega arith, c .before .pre .1, λ bs e h. put-begun _ bs _ h)
 
-edge-requires : tie.Need-edge-requires Inv-loop μ-loop
-edge-requires c κs = search needs
-
-mul-number : tie.Need-mul-number Inv-loop μ-loop
-mul-number c = search needs
-
-add-number : tie.Need-add-number Inv-loop μ-loop
-add-number c = search needs
-
-mul-number-2 : tie.Need-mul-number-2 Inv-loop μ-loop
-mul-number-2 c = search needs
-
-slice-set-from-number : tie.Need-slice-set-from-number Inv-loop μ-loop
-slice-set-from-number c = search needs
-
-add-i : tie.Need-add-i Inv-loop μ-loop
-add-i c = search needs
-
 loop-less : tie.Need-loop-less Inv-loop μ-loop
 loop-less c = omega arith
 
@@ -64,4 +46,4 @@ returns : tie.Need-returns Inv-loop μ-loop
 returns c = λ bs e h. let l = c .before .loop in put-ended (now (c .before .before .before .args .line)) bs (l .i) (l .boxes) (omega arith) (l .inv .2 bs e h)
 
 pub put-box-spec : {M : Type 1} → statement M
-put-box-spec = tie.close (tie.spec Inv-loop μ-loop loop-holds edge-requires mul-number add-number mul-number-2 slice-set-from-number add-i loop-less loop-again same-length returns)
+put-box-spec = tie.close (tie.spec Inv-loop μ-loop loop-holds (λ c κs. search needs) (λ c. search needs) (λ c. search needs) (λ c. search needs) (λ c. search needs) (λ c. search needs) loop-less loop-again same-length returns)

@@ -1,5 +1,5 @@
 -- `boxes::take_line` meets its contract. Assumes nothing.
-use mathlib.Core.Path.{_≡_, refl, sym, ap, _∙_}
+use mathlib.Core.Path.{_≡_, sym, ap, _∙_}
 use native.Mathlib.Omega.{arith}
 use borrow.Author.Needs.{needs}
 use denote.Ref.{now}
@@ -10,18 +10,6 @@ use Rattle.fields.specs.Lists.{consIf}
 use Rattle.sheet.specs.Keeping.{isBox}
 use Rattle.sheet.proofs.boxes.take_line.Statement.{statement}
 use Rattle.sheet.proofs.boxes.take_line.Tie as tie
-
-is-box-requires : tie.Need-is-box-requires
-is-box-requires c κs = search needs
-
-put-box-requires : tie.Need-put-box-requires
-put-box-requires c κs = search needs
-
-add-result : tie.Need-add-result
-add-result c = search needs
-
-same-length : tie.Need-same-length
-same-length c = search needs
 
 returns : tie.Need-returns
 unfolding consIf
@@ -39,4 +27,4 @@ returns-2 c = λ bs e h.
     rw (no, append-nil bs) (h, sym e)
 
 pub take-line-spec : {M : Type 1} → statement M
-take-line-spec = tie.close (tie.spec is-box-requires put-box-requires add-result same-length returns returns-2)
+take-line-spec = tie.close (tie.spec (λ c κs. tt) (λ c κs. search needs) (λ c. search needs) (λ c. search needs) returns returns-2)
