@@ -10,6 +10,9 @@ enum { OFFSET = 227, RECORD = 20, MOST = 6, LENGTH = OFFSET + MOST * RECORD, CLA
 /* The lengths of a line for classes and of one for a box, and the class that is kept. */
 enum { CLASS_LINE = 5, BOX_LINE = 27, GROUND = 2 };
 
+/* How many boxes have room beside a line for classes. */
+enum { MOST_BOXES = 63 };
+
 /* A box, by its values in the order of a line: low X, high X, low Y, high Y, low Z, high Z. */
 typedef struct {
     int32_t values[6];
@@ -113,27 +116,11 @@ static void numbers(void)
     HOLDS(las_check_sheet((const uint8_t *)"KT\3", 3) == 20);
 }
 
-/* How many boxes fit on a sheet beside the line for the ground, and the 65th line. */
-static void most_boxes(void)
-{
-    uint8_t sheet[CLASS_LINE + 64 * BOX_LINE];
-    box boxes[64];
-    for (int i = 0; i < 64; i++)
-        boxes[i] = yard;
-    const uint64_t length = make_sheet(sheet, boxes, 64);
-    HOLDS(las_check_sheet(sheet, length - BOX_LINE) == 0);
-    HOLDS(las_check_sheet(sheet, length - BOX_LINE + 1) == 24);
-    HOLDS(las_check_sheet(sheet, length) == 24);
-    HOLDS(las_check_sheet(sheet + CLASS_LINE, length - CLASS_LINE) == 0);
-    las_class_line line = las_class_test(sheet, length - BOX_LINE, GROUND + 1);
-    HOLDS(line.number == 0 && line.kept == 0 && line.lines == 64);
-}
-
 /* Whether a point by itself is kept by a sheet for the ground in these boxes: 1 or 0; -1 unless the released file has
  * just it or nothing, and the list a line for it or none. */
 static int kept(point of, const box *boxes, int count)
 {
-    uint8_t sheet[CLASS_LINE + MOST * BOX_LINE], file[LENGTH], out[OFFSET + RECORD];
+    uint8_t sheet[CLASS_LINE + MOST_BOXES * BOX_LINE], file[LENGTH], out[OFFSET + RECORD];
     las_line list = {7, 8};
     const uint64_t sheet_length = make_sheet(sheet, boxes, count), length = make_file(file, &of, 1);
     memset(out, 0xEE, sizeof out);
@@ -200,6 +187,27 @@ static void several(void)
     HOLDS(kept(mixed, boxes, 0) == 1);
 }
 
+/* As many boxes as there is room for, of which the last one keeps, and the 65th line. */
+static void most_boxes(void)
+{
+    uint8_t sheet[CLASS_LINE + (MOST_BOXES + 1) * BOX_LINE];
+    box boxes[MOST_BOXES + 1];
+    const point far = {1000, 0, 0, GROUND};
+    for (int i = 0; i <= MOST_BOXES; i++)
+        boxes[i] = yard;
+    HOLDS(kept(far, boxes, MOST_BOXES) == 0);
+    boxes[MOST_BOXES - 1] = with(0, 1000, 1000);
+    HOLDS(kept(far, boxes, MOST_BOXES) == 1);
+
+    const uint64_t length = make_sheet(sheet, boxes, MOST_BOXES + 1), full = length - BOX_LINE;
+    HOLDS(las_check_sheet(sheet, full) == 0);
+    HOLDS(las_check_sheet(sheet, full + 1) == 24);
+    HOLDS(las_check_sheet(sheet, length) == 24);
+    HOLDS(las_check_sheet(sheet + CLASS_LINE, length - CLASS_LINE) == 0);
+    las_class_line line = las_class_test(sheet, full, GROUND + 1);
+    HOLDS(line.number == 0 && line.kept == 0 && line.lines == 64);
+}
+
 /* A box keeps nothing by itself: neither another class nor a withheld point, and nothing at all without classes. */
 static void classes(void)
 {
@@ -248,9 +256,9 @@ static void releases(void)
 int main(void)
 {
     numbers();
-    most_boxes();
     places();
     several();
+    most_boxes();
     classes();
     releases();
     return summary();
