@@ -1,5 +1,4 @@
 -- `boxes::is_box` meets its contract. Assumes nothing.
-use borrow.Author.Needs.{needs}
 use Rattle.sheet.specs.Sheet.{kind}
 use Rattle.sheet.specs.Keeping.{isBox}
 use Rattle.sheet.proofs.boxes.is_box.Statement.{statement}

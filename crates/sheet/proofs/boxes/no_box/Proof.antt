@@ -1,5 +1,4 @@
 -- `boxes::no_box` meets its contract. Assumes nothing.
-use borrow.Author.Needs.{needs}
 use Rattle.sheet.proofs.boxes.no_box.Statement.{statement}
 use Rattle.sheet.proofs.boxes.no_box.Tie as tie
 
