@@ -1,7 +1,9 @@
 //! What is in a file that passes. Text and JSON are made of the same facts.
 
+pub mod boxes;
 pub mod class;
 pub mod geokeys;
+pub mod group;
 pub mod header;
 pub mod json;
 mod key_names;
@@ -13,6 +15,7 @@ pub mod tally;
 pub mod text;
 
 use crate::progress::Progress;
+use boxes::Boxes;
 use geokeys::GeoKeys;
 use korbishaf::{Error, Header, Records};
 use parts::Parts;
@@ -37,13 +40,13 @@ pub struct Facts<'a> {
 }
 
 impl<'a> Facts<'a> {
-    /// The facts of a file, in one pass over its points; 1 to 10 where it does not pass.
-    pub fn of(file: &'a [u8], progress: &Progress) -> Result<Self, Error> {
+    /// The facts of a file under boxes, in one pass over its points; 1 to 10 where it does not pass.
+    pub fn of(file: &'a [u8], boxes: &Boxes, progress: &Progress) -> Result<Self, Error> {
         let header = korbishaf::read_header(file)?;
         let records = korbishaf::records(file)?;
         let points_length = u64::from(header.point_count) * u64::from(header.record_length);
         progress.begin("counting", Some(points_length));
-        let tally = Tally::of(korbishaf::points(file)?, |points| {
+        let tally = Tally::of(korbishaf::points(file)?, boxes, |points| {
             progress.advance(points * u64::from(header.record_length));
         });
         Ok(Facts {

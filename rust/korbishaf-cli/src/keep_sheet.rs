@@ -99,8 +99,9 @@ mod tests {
     use compare::rng::{Rng, seeds};
 
     /// Lines of texts. Some are good only at times: what ends with `\r` only once, what begins with `\r` never.
-    const LINES: [&str; 16] = [
+    const LINES: [&str; 17] = [
         "class 2",
+        "box X 0..5 # comment",
         " \tclass ground # comment",
         "record yard 7",
         "record \"#\" 7#",

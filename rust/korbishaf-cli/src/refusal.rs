@@ -3,6 +3,8 @@
 //! The library has refused already, and these values only go with its words. They are read out of files that do not
 //! pass, so each is an `Option`: what is not there is not said.
 
+mod sheet;
+
 use crate::keep_sheet::KeepSheet;
 use crate::layout::{
     Field, HEADER_SIZE, MAJOR_VERSION, MINOR_VERSION, OFFSETS, POINT_COUNT, POINT_FORMAT,
@@ -31,7 +33,7 @@ pub fn words(file: &[u8], refused: &Error) -> String {
 
 /// A refused sheet: `sheet.bin: refused 21: a line of the sheet is of an unknown kind (line 1 at byte 0: kind 7)`.
 pub fn of_sheet(name: &str, sheet: &[u8], refused: &Error) -> String {
-    say(name, refused, about_sheet(sheet, refused.number()))
+    say(name, refused, sheet::about(sheet, refused.number()))
 }
 
 fn say(name: &str, refused: &Error, about: Option<String>) -> String {
@@ -117,32 +119,4 @@ fn about_scaling(file: &[u8]) -> Option<String> {
         let double = f64::from_bits(field.bits(file)?);
         (!range.contains(&double)).then(|| format!("{} {double:?}", field.name))
     })
-}
-
-/// Where the first line that does not pass begins, and what is wrong there.
-fn about_sheet(sheet: &[u8], number: u64) -> Option<String> {
-    let mut at = 0;
-    for index in 1..=65 {
-        let line = sheet.get(at..)?;
-        let length = match line {
-            _ if index == 65 => return Some(format!("it begins at byte {at}")),
-            [b'K', b'S', 1, lowest, highest, ..] if lowest <= highest => 5,
-            [b'K', b'S', 2, ..] if line.len() >= 21 => 21,
-            _ => {
-                let what = match (number, line) {
-                    (20, [first, second, ..]) => format!(": {first:02X} {second:02X}"),
-                    (21, [_, _, kind, ..]) => format!(": kind {kind}"),
-                    (22, [_]) => ": 1 byte left".into(),
-                    (22, _) => format!(": {} bytes left", line.len()),
-                    (23, [_, _, _, lowest, highest, ..]) => {
-                        format!(": classes {lowest} to {highest}")
-                    }
-                    _ => String::new(),
-                };
-                return Some(format!("line {index} at byte {at}{what}"));
-            }
-        };
-        at += length;
-    }
-    None
 }

@@ -203,8 +203,8 @@ fn a_fault_behind_the_line_that_answers_is_refused() {
         ),
         (
             b"KS\x01\x02\x02KS\x01\x05\x03",
-            "sheet: refused 23: a line of the sheet has its lowest class above its highest \
-             (line 2 at byte 5: classes 5 to 3)\n",
+            "sheet: refused 23: a line of the sheet has its lowest class above its highest, \
+             or a low value of its box above the high one (line 2 at byte 5: classes 5 to 3)\n",
         ),
         (
             b"KS\x01\x02\x02KS",

@@ -147,6 +147,7 @@ fn a_report_has_the_same_in_json() {
             { "class": 2, "name": "ground", "points": 2 },
             { "class": 6, "name": "building", "points": 1 }
         ],
+        "points_outside_boxes_by_class": [],
         "records": [],
         "extra_header_bytes": { "length": 0, "all_zero": true },
         "gap_before_points": { "length": 0, "all_zero": true },

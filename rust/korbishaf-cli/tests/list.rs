@@ -225,7 +225,7 @@ fn refusals_come_in_the_order_of_a_release() {
     let of_file = "in.las: refused 3: version is not 1.2 (version 1.3)\n";
     let of_sheet = "sheet.txt: refused 21: a line of the sheet is of an unknown kind (line 1 at byte 0: kind 7)\n";
     let of_text =
-        "sheet.txt:1:1: expected 'class' or 'record', found 'clas'; did you mean 'class'?\n";
+        "sheet.txt:1:1: expected 'class', 'record' or 'box', found 'clas'; did you mean 'class'?\n";
     for (file, sheet, words) in [
         (&bad, "class 2", of_file),
         (&bad, "KS\x07", of_file),
@@ -256,7 +256,7 @@ fn every_number_of_a_file_and_of_a_sheet_is_given() {
     }
     for (number, sheet) in [
         (20, &b"KS\x01\x02\x02KT\x01"[..]),
-        (21, b"KS\x03\x02\x02"),
+        (21, b"KS\x04\x02\x02"),
         (22, b"KS\x02yard"),
         (23, b"KS\x01\x03\x02"),
         (24, &b"KS\x01\x02\x02".repeat(65)),

@@ -128,7 +128,8 @@ fn lists_have_what_goes_out() {
     for seed in seeds() {
         let mut rng = Rng::new(seed);
         for index in 0..FILES {
-            let (file, sheet) = (FileSpec::random(&mut rng), SheetSpec::random(&mut rng));
+            let file = FileSpec::random(&mut rng);
+            let sheet = SheetSpec::random_for(&mut rng, &file);
             scratch.write("in.las", file.bytes());
             scratch.write("sheet.bin", sheet.bytes());
             let at = format!("file {index} of seed {seed}");

@@ -40,7 +40,7 @@ fn the_readme_shows_what_is_printed() {
     symlink(root().join("cards"), scratch.path("cards")).unwrap();
     let blocks = readme.split("```console\n").skip(1);
     let shown: Vec<_> = blocks.flat_map(|block| commands(block, "```")).collect();
-    assert_eq!(shown.len(), 11);
+    assert_eq!(shown.len(), 13);
     // tests/install.sh tries the first
     assert!(shown[0].0.starts_with("./install "));
     for (command, output) in &shown[1..] {
@@ -73,7 +73,7 @@ fn the_manual_page_has_commands_that_work() {
         .unwrap();
     let blocks = examples.split(".nf\n").skip(1);
     let shown: Vec<_> = blocks.flat_map(|block| commands(block, ".fi")).collect();
-    assert_eq!(shown.len(), 10);
+    assert_eq!(shown.len(), 12);
     let scratch = Scratch::new();
     for (card, scan) in [("yard", "scan.las"), ("survey", "survey.las")] {
         let from = root().join("cards").join(card).join("in.las");

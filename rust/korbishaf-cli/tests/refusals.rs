@@ -149,6 +149,10 @@ fn a_later_record_is_named() {
     assert!(rest.ends_with(" or more, offset 464)\n"), "{about}");
 }
 
+/// The words of 23.
+const ABOVE: &str = "a line of the sheet has its lowest class above its highest, \
+                     or a low value of its box above the high one";
+
 #[test]
 fn sheets() {
     let class = [b'K', b'S', 1, 2, 2];
@@ -180,15 +184,37 @@ fn sheets() {
         22,
         &format!("{short} (line 2 at byte 5: 7 bytes left)"),
     );
-    let above = "a line of the sheet has its lowest class above its highest";
     refuses_sheet(
         b"KS\x01\x03\x02",
         23,
-        &format!("{above} (line 1 at byte 0: classes 3 to 2)"),
+        &format!("{ABOVE} (line 1 at byte 0: classes 3 to 2)"),
     );
     let more = "a 65th line of the sheet begins (it begins at byte 320)";
     refuses_sheet(&class.repeat(65), 24, more);
     refuses_sheet(&[&class.repeat(64)[..], b"K"].concat(), 24, more);
+}
+
+/// A line of a box at 0, but for one axis.
+fn bounding_box(axis: usize, low: i32, high: i32) -> Vec<u8> {
+    let mut values = [0; 6];
+    (values[2 * axis], values[2 * axis + 1]) = (low, high);
+    [b"KS\x03", &*values.map(i32::to_le_bytes).concat()].concat()
+}
+
+#[test]
+fn boxes() {
+    for (axis, name) in ["X", "Y", "Z"].into_iter().enumerate() {
+        for (low, high) in [(-1, -2), (1, 0), (i32::MAX, i32::MIN)] {
+            let sheet = [b"KS\x01\x02\x02", &*bounding_box(axis, low, high)].concat();
+            let about = format!("line 2 at byte 5: {name} from {low} to {high}");
+            refuses_sheet(&sheet, 23, &format!("{ABOVE} ({about})"));
+        }
+    }
+    let good = bounding_box(0, 0, 0);
+    let short = "a line of the sheet is cut short (line 2 at byte 27: 26 bytes left)";
+    refuses_sheet(&[&good[..], &good[..26]].concat(), 22, short);
+    let more = "a 65th line of the sheet begins (it begins at byte 1728)";
+    refuses_sheet(&good.repeat(65), 24, more);
 }
 
 /// The file is looked at before a sheet's bytes, as the specification has it.

@@ -306,11 +306,12 @@ fn las_plain_gives_the_same() {
     for seed in seeds() {
         let mut rng = Rng::new(seed);
         for _ in 0..200 {
-            let mut file = FileSpec::random(&mut rng).bytes();
+            let spec = FileSpec::random(&mut rng);
+            let mut sheet = SheetSpec::random_for(&mut rng, &spec).bytes();
+            let mut file = spec.bytes();
             if rng.chance(40) {
                 damage(&mut rng, &mut file);
             }
-            let mut sheet = SheetSpec::random(&mut rng).bytes();
             if rng.chance(20) && !sheet.is_empty() {
                 // the mark stays, since other bytes would be a text
                 let place = rng.from_to(2, sheet.len() - 1);

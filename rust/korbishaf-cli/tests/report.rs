@@ -276,7 +276,7 @@ fn refusals_come_in_the_order_of_a_release() {
     let of_file = "in.las: refused 3: version is not 1.2 (version 1.3)\n";
     let of_sheet = "sheet.txt: refused 21: a line of the sheet is of an unknown kind (line 1 at byte 0: kind 7)\n";
     let of_text =
-        "sheet.txt:1:1: expected 'class' or 'record', found 'clas'; did you mean 'class'?\n";
+        "sheet.txt:1:1: expected 'class', 'record' or 'box', found 'clas'; did you mean 'class'?\n";
     for (file, sheet, words) in [
         (&bad, "class 2", of_file),
         (&bad, "KS\x07", of_file),
@@ -362,7 +362,8 @@ fn what_goes_out_and_what_stays_agree_with_las_plain() {
         let mut rng = Rng::new(seed);
         for index in 0..FILES {
             let file = FileSpec::random(&mut rng);
-            let (bytes, sheet) = (file.bytes(), SheetSpec::random(&mut rng));
+            let sheet = SheetSpec::random_for(&mut rng, &file);
+            let bytes = file.bytes();
             scratch.write("in.las", &bytes);
             scratch.write("sheet.bin", sheet.bytes());
             let ran = scratch.says("report --json in.las sheet.bin");
@@ -402,34 +403,49 @@ fn assert_share(file: &FileSpec, sheet: &SheetSpec, json: &Value, going_out: boo
 /// Points are listed by class, apart from each other if they stay for another reason; of those that go out it is said
 /// which flags they have.
 fn assert_points(file: &FileSpec, sheet: &SheetSpec, share: &Value, going_out: bool) {
-    let points = file.points.iter().map(|bytes| {
-        let point = las_plain::decode(file.format, file.record_length, bytes).unwrap();
-        (point, sheet.keeps_point(bytes))
-    });
+    let points = file
+        .points
+        .iter()
+        .filter(|bytes| sheet.keeps_point(bytes) == going_out);
     let points: Vec<_> = points
-        .filter(|(_, kept)| *kept == going_out)
-        .map(|(point, _)| point)
+        .map(|bytes| las_plain::decode(file.format, file.record_length, bytes).unwrap())
         .collect();
     assert_eq!(share.at("points").number(), points.len() as u64);
-    let open = points.iter().filter(|point| !point.withheld);
-    assert_eq!(listed(share, "points_by_class"), by_class(open));
     if going_out {
-        let count = |has: fn(&Point) -> bool| points.iter().filter(|point| has(point)).count();
-        let wanted = [
-            ("synthetic", count(|point| point.synthetic)),
-            ("key_point", count(|point| point.key_point)),
-            ("withheld", 0),
-        ];
-        for (flag, wanted) in wanted {
-            let found = share.at("points_by_flag").at(flag).number();
-            assert_eq!(found, wanted as u64, "{flag}");
-        }
+        assert_eq!(listed(share, "points_by_class"), by_class(points.iter()));
+        assert_flags(&points, share);
     } else {
-        let withheld = points.iter().filter(|point| point.withheld);
-        assert_eq!(
-            listed(share, "withheld_points_by_class"),
-            by_class(withheld)
-        );
+        assert_reasons(&points, sheet, share);
+    }
+}
+
+fn assert_flags(points: &[Point], share: &Value) {
+    let count = |has: fn(&Point) -> bool| points.iter().filter(|point| has(point)).count();
+    let wanted = [
+        ("synthetic", count(|point| point.synthetic)),
+        ("key_point", count(|point| point.key_point)),
+        ("withheld", 0),
+    ];
+    for (flag, wanted) in wanted {
+        let found = share.at("points_by_flag").at(flag).number();
+        assert_eq!(found, wanted as u64, "{flag}");
+    }
+}
+
+/// Withheld points stay for that; of the others, those of classes that are kept stay since no box holds them.
+fn assert_reasons(points: &[Point], sheet: &SheetSpec, share: &Value) {
+    type Parted<'a> = (Vec<&'a Point>, Vec<&'a Point>);
+    let (withheld, others): Parted<'_> = points.iter().partition(|point| point.withheld);
+    let (outside, not_kept): Parted<'_> = others
+        .into_iter()
+        .partition(|point| sheet.keeps_class(point.classification));
+    for (name, points) in [
+        ("withheld_points_by_class", withheld),
+        ("points_by_class", not_kept),
+        ("points_outside_boxes_by_class", outside),
+    ] {
+        let wanted = by_class(points.into_iter());
+        assert_eq!(listed(share, name), wanted, "{name}");
     }
 }
 

@@ -4,7 +4,7 @@ mod common;
 
 use common::{Ran, Scratch};
 use compare::rng::{Rng, seeds};
-use compare::spec::SheetSpec;
+use compare::spec::{LineSpec, SheetSpec};
 use std::io::Write;
 use std::process::Stdio;
 
@@ -84,7 +84,7 @@ fn mistakes_have_file_line_and_column() {
     for (text, said) in [
         (
             "clas 2",
-            ":1:1: expected 'class' or 'record', found 'clas'; did you mean 'class'?",
+            ":1:1: expected 'class', 'record' or 'box', found 'clas'; did you mean 'class'?",
         ),
         (
             "\n  class 5-3",
@@ -101,12 +101,20 @@ fn mistakes_have_file_line_and_column() {
         assert_eq!(scratch.says("sheet sheet.txt -o sheet.bin"), wanted);
     }
     scratch.write("wrong.bin", b"KS\x01\x03\x02");
-    let words = "a line of the sheet has its lowest class above its highest";
+    let words = "a line of the sheet has its lowest class above its highest, \
+                 or a low value of its box above the high one";
     let wanted = format!("wrong.bin: refused 23: {words} (line 1 at byte 0: classes 3 to 2)\n");
     assert_eq!(scratch.says("sheet wrong.bin"), Ran::new(1, "", &wanted));
     let none = Ran::new(3, "", "none.txt: No such file or directory\n");
     assert_eq!(scratch.says("sheet none.txt"), none);
     assert_eq!(scratch.names(), ["sheet.txt", "wrong.bin"]);
+}
+
+/// The boxes of a sheet that passes, as its description has them.
+fn boxes(sheet: &[u8]) -> Vec<LineSpec> {
+    let mut lines = SheetSpec::of_passing(sheet).lines;
+    lines.retain(|line| matches!(line, LineSpec::Box(_)));
+    lines
 }
 
 /// Any sheet that passes, printed, compiled and printed again: the same lines, and it keeps the same.
@@ -132,6 +140,7 @@ fn bytes_to_text_to_bytes() {
                 let kept = |sheet: &[u8]| las_plain::class_kept(sheet, class);
                 assert_eq!(kept(&again), kept(&sheet));
             }
+            assert_eq!(boxes(&again), boxes(&sheet));
         }
     }
 }

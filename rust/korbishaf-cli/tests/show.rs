@@ -173,13 +173,13 @@ Points by return number
   7       -       1
 
 Bounds
-         stated  actual
-  max X     7.0     7.0
-  min X    -0.0     0.0
-  max Y     5.0     5.0
-  min Y    -1.5    -1.5
-  max Z     7.5     7.0  differs
-  min Z     inf    -3.0  differs
+         stated  actual  stored
+  max X     7.0     7.0       4
+  min X    -0.0     0.0     -10
+  max Y     5.0     5.0      20
+  min Y    -1.5    -1.5      -6
+  max Z     7.5     7.0       8  differs
+  min Z     inf    -3.0      -2  differs
 
 GeoKeys
   1024  GTModelTypeGeoKey        2 (geographic)
@@ -264,7 +264,7 @@ fn a_file_without_points_has_bounds_of_zero() {
     let text = shown(&file.bytes());
     assert_eq!(
         section(&text, "Bounds")[4],
-        "  min Y     1.0     0.0  differs"
+        "  min Y     1.0     0.0       -  differs"
     );
 }
 

@@ -135,7 +135,7 @@ fn words_that_are_missing_or_too_many_are_wrong_usage() {
 
 #[test]
 fn the_version() {
-    let version = concat!("korbishaf ", env!("CARGO_PKG_VERSION"), " (level 6)\n");
+    let version = concat!("korbishaf ", env!("CARGO_PKG_VERSION"), " (level 7)\n");
     assert_eq!(says("--version"), Ran::new(0, version, ""));
     assert_eq!(says("-V"), Ran::new(0, version, ""));
     for option in ["--version", "--help"] {
@@ -172,6 +172,10 @@ fn every_number_is_explained() {
             ran.out
         );
     }
+}
+
+#[test]
+fn some_explanations_word_by_word() {
     let seven = "refused 7: point offset below the header size or above the file's length\n\
                  The header is damaged, or the file was cut short before its points.\n";
     assert_eq!(says("explain 7").out, seven);
@@ -182,6 +186,15 @@ fn every_number_is_explained() {
                       Only calls of the library give this number: lend as many lines as the file has \
                       records and points.\n";
     assert_eq!(says("explain 31").out, thirty_one);
+    let twenty_three = "refused 23: a line of the sheet has its lowest class above its highest, \
+                        or a low value of its box above the high one\n\
+                        A line of kind 1 has the lowest class first, one of kind 3 the low value before the \
+                        high one on each axis.\n";
+    assert_eq!(says("explain 23").out, twenty_three);
+    for (number, words) in [(21, "lines of kind 3 are boxes"), (22, "kind 3 has 27")] {
+        let ran = says(&format!("explain {number}"));
+        assert!(ran.out.contains(words), "{}", ran.out);
+    }
     assert!(says("explain 9").out.contains("'korbishaf mend'"));
     assert!(says("explain 42").out.contains("'korbishaf show'"));
 }

@@ -38,9 +38,9 @@ fn what_las_plain_releases_is_verified_and_what_it_does_not_give_back_is_not() {
     for seed in seeds() {
         let mut rng = Rng::new(seed);
         for _ in 0..FILES {
-            let sheet = SheetSpec::random(&mut rng).bytes();
-            let file = FileSpec::random(&mut rng).bytes();
-            let mut card = released(&file, &sheet);
+            let file = FileSpec::random(&mut rng);
+            let sheet = SheetSpec::random_for(&mut rng, &file).bytes();
+            let mut card = released(&file.bytes(), &sheet);
             card.resize(card.len() + rng.pick(&[0, 0, 1, 30]), 0);
             let mut changed = card.clone();
             let place = rng.below(changed.len());

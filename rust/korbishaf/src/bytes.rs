@@ -25,13 +25,15 @@ use crate::{narrow, sys};
 /// assert!(check_sheet(&[]).is_ok());
 /// assert!(check_sheet(&[0x4B, 0x53, 1, 2, 2]).is_ok());
 /// assert_eq!(check_sheet(&[0x4B, 0x53, 1, 3, 2]).unwrap_err().number(), 23);
+/// assert_eq!(check_sheet(&[0x4B, 0x53, 3, 0, 0]).unwrap_err().number(), 22); // a box has 24 bytes behind its kind
 /// ```
 pub fn check_sheet(sheet: &[u8]) -> Result<(), Error> {
     // SAFETY: pointer and length are those of one slice.
     passes(unsafe { sys::las_check_sheet(sheet.as_ptr(), sheet.len() as u64) })
 }
 
-/// Whether a line of a sheet contains a class, from 0 to 255. It has no [flags](crate#classes-and-flags) in it.
+/// Whether a line of a sheet contains a class, from 0 to 255. It has no [flags](crate#classes-and-flags) in it, and
+/// [boxes](crate#boxes) are not looked at.
 ///
 /// # Errors
 ///

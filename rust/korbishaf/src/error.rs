@@ -130,7 +130,9 @@ pub fn refusal_words(number: u64) -> Option<&'static str> {
         20 => "a line of the sheet has a wrong mark",
         21 => "a line of the sheet is of an unknown kind",
         22 => "a line of the sheet is cut short",
-        23 => "a line of the sheet has its lowest class above its highest",
+        23 => {
+            "a line of the sheet has its lowest class above its highest, or a low value of its box above the high one"
+        }
         24 => "a 65th line of the sheet begins",
         30 => "the output is shorter than the released file",
         31 => "the list is shorter than the kept records and points together",

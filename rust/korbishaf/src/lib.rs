@@ -41,6 +41,27 @@
 //! alone: a line for class 2 keeps synthetic points and key points of that class too, and a line above 31 keeps none.
 //! Withheld points are never released, whatever the sheet says.
 //!
+//! # Boxes
+//!
+//! A sheet may have boxes beside its classes. Where it has any, a point is released only if its class is kept, it is
+//! not withheld, and it lies in one of the boxes, edges included. A sheet with boxes and no line for classes keeps no
+//! point. What records it keeps does not depend on boxes.
+//!
+//! The bounds of a box are stored values, the whole numbers that a file has for X, Y and Z, as in a [`Point`], and no
+//! coordinates. A coordinate is stored value times scale plus offset, by the file's header: a box that is right for one
+//! file may be wrong for another, with other scales and offsets.
+//!
+//! ```
+//! use korbishaf::{Line, Sheet, coordinate};
+//!
+//! let sheet = Sheet::from_text("class ground\nbox X -1500..2000 Y 0..4000 # at any Z")?;
+//! let anywhere_in_z = Line::bounding_box([-1500, 0, i32::MIN], [2000, 4000, i32::MAX]);
+//! assert!(sheet.lines().eq([Line::class(2), anywhere_in_z]));
+//! // with the scale 0.01 and the offset 500 that is from 485 to 520 in X
+//! assert_eq!([-1500, 2000].map(|stored| coordinate(stored, 0.01, 500.0)), [485.0, 520.0]);
+//! # Ok::<(), korbishaf::TextError>(())
+//! ```
+//!
 //! # Example
 //!
 //! A file of three points, made here in memory, and a sheet that keeps one of them:
@@ -109,7 +130,8 @@ use text_field::cut;
 
 /// The number of the last change request that is in the library: 0 for the base, 1 with [`mend`], 2 where texts are cut
 /// before the spaces at their end, 3 where a class has no [flags](crate#classes-and-flags) in it, 4 with
-/// [`class_test`], 5 with [`cutting_list`] and [`release_by_list`], 6 with [`geokey_by_halving`].
+/// [`class_test`], 5 with [`cutting_list`] and [`release_by_list`], 6 with [`geokey_by_halving`], 7 where a sheet may
+/// have [boxes](crate#boxes).
 #[must_use]
 pub fn level() -> u64 {
     sys::las_level()

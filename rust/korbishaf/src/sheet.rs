@@ -1,5 +1,6 @@
 //! The keep sheet.
 
+mod bounds;
 mod line;
 mod read;
 mod text;
@@ -68,7 +69,8 @@ impl Sheet {
     ///
     /// # Errors
     ///
-    /// 23 where a line's lowest class is above its highest, 24 where there are more than 64 lines.
+    /// 23 where a line's lowest class is above its highest, or a box has a low value above its high one; 24 where there
+    /// are more than 64 lines.
     ///
     /// ```
     /// use korbishaf::{Line, Sheet};
@@ -98,6 +100,9 @@ impl Sheet {
     ///   is empty or has a blank, a quote, a `#`, a backslash, a control or a byte that is not ASCII stands in double
     ///   quotes, in which `\"`, `\\` and `\xNN` (two hexadecimal digits, not `\x00`) stand for a byte. Spaces at its
     ///   end do not count;
+    /// - `box X -1500..2000 Y 0..4000 Z -20..35`: a [box](crate#boxes), on each axis from the low to the high stored
+    ///   value, whole numbers from -2147483648 to 2147483647. An axis that is left out is not bounded, as Z in
+    ///   `box X -1500..2000 Y 0..4000`; one at least has to be there. Axes stand in any order and in any case;
     /// - blank, or a comment from `#` on, which may also follow on one of the others.
     ///
     /// Words are parted by spaces or tabs. A byte order mark before the text is skipped.
@@ -111,6 +116,10 @@ impl Sheet {
     ///
     /// let sheet = Sheet::from_text("class Ground # as surveyed\n\nrecord \"my survey\" 7\n")?;
     /// assert!(sheet.lines().eq([Line::class(2), Line::record("my survey", 7)?]));
+    ///
+    /// let yard = Sheet::from_text("class ground\nbox X -1500..2000 Y 0..4000")?;
+    /// let anywhere_in_z = Line::bounding_box([-1500, 0, i32::MIN], [2000, 4000, i32::MAX]);
+    /// assert!(yard.lines().eq([Line::class(2), anywhere_in_z]));
     ///
     /// let mistake = Sheet::from_text("class 2\nclass gruond").unwrap_err();
     /// assert_eq!((mistake.line(), mistake.column()), (2, 7));
@@ -139,8 +148,9 @@ impl Sheet {
     /// The sheet as a text, a line for each of its own, which [`from_text`](Sheet::from_text) reads.
     ///
     /// A text that is read and written again has the same lines: its comments and its layout are gone, and a class that
-    /// it had by name is there by number, `class 2` for `class ground`. Bytes that are written as a text and read again
-    /// are a sheet that keeps the same: what stood behind the end of a user ID is gone.
+    /// it had by name is there by number, `class 2` for `class ground`. A box has its axes in the order X, Y, Z and
+    /// without those that are not bounded, unless none is. Bytes that are written as a text and read again are a sheet
+    /// that keeps the same: what stood behind the end of a user ID is gone.
     #[must_use]
     pub fn to_text(&self) -> String {
         self.to_string()
@@ -175,7 +185,8 @@ impl TryFrom<Vec<u8>> for Sheet {
 /// Whether a line of a sheet contains a class, from 0 to 255.
 ///
 /// The class has no [flags](crate#classes-and-flags) in it: of a [`Point`](crate::Point), ask for its `classification`.
-/// A withheld point is not released even where its class is kept.
+/// A withheld point is not released even where its class is kept, and neither is one outside all of the sheet's
+/// [boxes](crate#boxes), which are not looked at here.
 ///
 /// ```
 /// use korbishaf::{Line, Sheet, class_kept};
@@ -203,7 +214,8 @@ pub struct ClassLine {
 /// Whether a line of a sheet holds a class, from 0 to 255, and how many lines were looked at for it.
 ///
 /// The test leaves at the first line that holds the class: where `kept` is true, line number `lines` answered,
-/// counted from 1. Lines for records count as any others, and hold no class. For the rest it is [`class_kept`].
+/// counted from 1. Lines for records and lines of boxes count as any others, and hold no class. For the rest it is
+/// [`class_kept`].
 ///
 /// ```
 /// use korbishaf::{ClassLine, Line, Sheet, class_test};

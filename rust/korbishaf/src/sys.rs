@@ -240,7 +240,8 @@ pub struct las_header {
 unsafe extern "C" {
     /// The number of the last change request that is in: 0 for the base, 1 with `las_mend`, 2 where a text's cut has
     /// no spaces at its end, 3 where a class has no flags in it and withheld points are never released, 4 with
-    /// `las_class_test`, 5 with `las_cutting_list` and `las_release_by_list`.
+    /// `las_class_test`, 5 with `las_cutting_list` and `las_release_by_list`, 6 with `las_geokey_halve`, 7 where a
+    /// sheet may have boxes.
     pub safe fn las_level() -> u64;
 
     /// 0 if the file passes, otherwise 1 to 10.
@@ -279,10 +280,12 @@ unsafe extern "C" {
     /// The bits of a coordinate, from the bits of its scale and offset.
     pub safe fn las_coordinate(stored: i32, scale: u64, offset: u64) -> u64;
 
-    /// Whether a line of the sheet contains that class, which has no flags in it. Numbers: 20 to 24.
+    /// Whether a line of the sheet contains that class, which has no flags in it; boxes are not looked at. Numbers: 20
+    /// to 24.
     pub fn las_class_kept(sheet: *const u8, sheet_length: u64, classification: u8) -> las_kept;
 
-    /// Whether a line of the sheet holds that class, and how many lines were looked at for it. Numbers: 20 to 24.
+    /// Whether a line of the sheet holds that class, and how many lines were looked at for it, of any kind. Numbers: 20
+    /// to 24.
     pub fn las_class_test(
         sheet: *const u8,
         sheet_length: u64,

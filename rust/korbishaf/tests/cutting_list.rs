@@ -289,9 +289,14 @@ fn refuses(file: &[u8], sheet: &[u8], number: u64) {
     assert_eq!((refused.number(), refused.needed()), (number, None));
 }
 
-const BAD_SHEETS: [(&[u8], u64); 5] = [
+const BAD_SHEETS: [(&[u8], u64); 7] = [
     (b"KT\x01", 20),
-    (b"KS\x03\x02\x02", 21),
+    (b"KS\x04\x02\x02", 21),
+    (b"KS\x03\x02\x02", 22),
+    (
+        b"KS\x03\0\0\0\0\0\0\0\0\0\0\0\0\0\0\0\0\x01\0\0\0\0\0\0\0",
+        23,
+    ),
     (b"KS\x01\x02", 22),
     (b"KS\x01\x03\x02", 23),
     (&[b'K', b'S', 2, 0, 0, 0], 22),

@@ -1,6 +1,7 @@
 //! The sample cards damaged in every byte, cut at every length: the wrappers agree with each other, and none panics.
 
-use korbishaf::{CuttingLine, Record, Sheet, bytes};
+use korbishaf::{CuttingLine, Line, Point, Record, Sheet, bytes};
+use std::collections::BTreeSet;
 use std::fs;
 use std::path::Path;
 
@@ -136,6 +137,19 @@ fn try_halving(file: &[u8], key: u16, plain: u64) {
     }
 }
 
+/// Whether a point lies in a box of a sheet that passes, or the sheet has none.
+fn in_one_of_the_boxes(sheet: &[u8], point: &Point) -> bool {
+    let (mut boxes, mut within) = (0, false);
+    for line in Sheet::from_bytes(sheet).unwrap().lines() {
+        if let Line::Box { low, high } = line {
+            boxes += 1;
+            let stored = [point.x, point.y, point.z];
+            within |= (0..3).all(|axis| (low[axis]..=high[axis]).contains(&stored[axis]));
+        }
+    }
+    within || boxes == 0
+}
+
 /// What holds of any file and any sheet. Returns the numbers of the two checks.
 fn try_all(file: &[u8], sheet: &[u8]) -> (u64, u64) {
     let of_file = number(&korbishaf::check_file(file));
@@ -198,6 +212,7 @@ fn try_all(file: &[u8], sheet: &[u8]) -> (u64, u64) {
         let kept: Vec<_> = points
             .filter(|found| !found.point.withheld)
             .filter(|found| bytes::class_kept(sheet, found.point.classification).unwrap())
+            .filter(|found| in_one_of_the_boxes(sheet, &found.point))
             .map(|found| &file[found.place..][..length])
             .collect();
         let released_points = korbishaf::points(out).unwrap();
@@ -221,6 +236,7 @@ fn cards_as_they_are() {
     for name in ["survey", "yard"] {
         let (file, sheet) = card(name);
         assert_eq!(try_all(&file, &sheet), (0, 0));
+        assert_eq!(try_all(&file, &with_box(name, &sheet)), (0, 0));
         assert_eq!(try_all(&file, &[]), (0, 0));
         assert_eq!(try_all(&[], &sheet), (1, 0));
     }
@@ -260,17 +276,30 @@ fn cut_files() {
     }
 }
 
+/// The sheet of a card with a box behind its lines, in which some of the card's points lie and others do not.
+fn with_box(name: &str, sheet: &[u8]) -> Vec<u8> {
+    let (low, high) = match name {
+        "yard" => ([-1300, i32::MIN, -200], [i32::MAX, 400, 200]),
+        _ => ([i32::MIN, i32::MIN, 0], [50, i32::MAX, i32::MAX]),
+    };
+    let line = Line::bounding_box(low, high);
+    [sheet, Sheet::from_lines([line]).unwrap().as_bytes()].concat()
+}
+
 #[test]
 fn damaged_and_cut_sheets() {
+    let mut numbers = BTreeSet::new();
     for name in ["survey", "yard"] {
         let (file, sheet) = card(name);
+        let sheet = with_box(name, &sheet);
         for place in 0..sheet.len() {
-            try_all(&file, &sheet[..place]);
+            numbers.insert(try_all(&file, &sheet[..place]).1);
             for byte in [0, 1, 2, 3, b' ', 0x7F, 0x80, 0xFF, sheet[place] ^ 1] {
                 let mut sheet = sheet.clone();
                 sheet[place] = byte;
-                try_all(&file, &sheet);
+                numbers.insert(try_all(&file, &sheet).1);
             }
         }
     }
+    assert_eq!(numbers, BTreeSet::from([0, 20, 21, 22, 23]));
 }

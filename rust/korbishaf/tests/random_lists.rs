@@ -50,12 +50,27 @@ impl Random {
     }
 
     fn line(&mut self) -> Line {
-        if self.below(2) == 0 {
-            let name = NAMES[self.below(NAMES.len())];
-            return Line::record(name, self.below(3) as u16).unwrap();
+        match self.below(5) {
+            0..2 => {
+                let name = NAMES[self.below(NAMES.len())];
+                Line::record(name, self.below(3) as u16).unwrap()
+            }
+            2..4 => {
+                let lowest = self.below(40) as u8;
+                Line::classes(lowest, lowest + self.below(20) as u8)
+            }
+            _ => self.bounding_box(),
         }
-        let lowest = self.below(40) as u8;
-        Line::classes(lowest, lowest + self.below(20) as u8)
+    }
+
+    /// A box that bounds one axis, or two.
+    fn bounding_box(&mut self) -> Line {
+        let (mut low, mut high) = ([i32::MIN; 3], [i32::MAX; 3]);
+        for _ in 0..2 {
+            low[self.below(3)] = self.next() as i32 / 2 - i32::MAX / 2;
+            high[self.below(3)] = self.next() as i32 / 2 + i32::MAX / 2;
+        }
+        Line::bounding_box(low, high)
     }
 }
 
@@ -64,8 +79,8 @@ struct Scan {
     file: Vec<u8>,
     /// The name, the record ID and the payload of each record.
     records: Vec<(&'static [u8], u16, CuttingLine)>,
-    /// The classification byte and the record of each point.
-    points: Vec<(u8, CuttingLine)>,
+    /// The classification byte, the stored X, Y and Z and the record of each point.
+    points: Vec<(u8, [i32; 3], CuttingLine)>,
 }
 
 impl Scan {
@@ -122,7 +137,11 @@ impl Scan {
         };
         let mut point: Vec<u8> = (0..record_length).map(|_| random.next() as u8).collect();
         point[15] &= [0x1F, 0x7F, 0xFF][random.below(3)];
-        self.points.push((point[15], line));
+        let stored = [0, 4, 8].map(|place| {
+            let bytes = point[place..].first_chunk().unwrap();
+            i32::from_le_bytes(*bytes)
+        });
+        self.points.push((point[15], stored, line));
         self.file.extend(point);
     }
 
@@ -136,16 +155,34 @@ impl Scan {
                 _ => false,
             })
         });
-        let points = self.points.iter().filter(|(byte, _)| {
+        let points = self.points.iter().filter(|(byte, stored, _)| {
             *byte < 128
+                && in_one_of_the_boxes(sheet, *stored)
                 && sheet.lines().any(|line| match line {
                     Line::Classes { lowest, highest } => (lowest..=highest).contains(&(byte % 32)),
                     _ => false,
                 })
         });
         let records = records.map(|(_, _, line)| *line);
-        records.chain(points.map(|(_, line)| *line)).collect()
+        records.chain(points.map(|(_, _, line)| *line)).collect()
     }
+}
+
+/// Whether a point lies in a box of a sheet, or the sheet has none.
+fn in_one_of_the_boxes(sheet: &Sheet, [x, y, z]: [i32; 3]) -> bool {
+    let mut boxes = sheet
+        .lines()
+        .filter_map(|line| match line {
+            Line::Box { low, high } => Some((low, high)),
+            _ => None,
+        })
+        .peekable();
+    boxes.peek().is_none()
+        || boxes.any(|(low, high)| {
+            (low[0]..=high[0]).contains(&x)
+                && (low[1]..=high[1]).contains(&y)
+                && (low[2]..=high[2]).contains(&z)
+        })
 }
 
 /// A header that passes but for what is set later: its size, the offset to the points and the two counts.
@@ -161,10 +198,18 @@ fn header(format: u8, record_length: u16) -> Vec<u8> {
     header
 }
 
+/// The lines of a sheet that are no boxes.
+fn without_boxes(sheet: &Sheet) -> Sheet {
+    let others = sheet
+        .lines()
+        .filter(|line| !matches!(line, Line::Box { .. }));
+    Sheet::from_lines(others).unwrap()
+}
+
 #[test]
 fn every_kept_record_and_point_has_its_line() {
     let mut random = Random(5);
-    let mut seen = [0; 3];
+    let mut seen = [0; 4];
     for file in 0..FILES {
         let (scan, sheet) = (Scan::random(&mut random), random.sheet());
         let lines = scan.lines(&sheet);
@@ -188,7 +233,8 @@ fn every_kept_record_and_point_has_its_line() {
             assert!(list.iter().all(|line| *line == spare), "{file}");
         }
         let empty = lines.iter().filter(|line| line.length == 0).count();
-        let counts = [lines.len(), empty, usize::from(lines.is_empty())];
+        let left_out = scan.lines(&without_boxes(&sheet)).len() - lines.len();
+        let counts = [lines.len(), empty, usize::from(lines.is_empty()), left_out];
         seen = std::array::from_fn(|count| seen[count] + counts[count]);
     }
     assert!(seen.iter().all(|&count| count > FILES / 20), "{seen:?}");

@@ -5,6 +5,47 @@ use korbishaf::{ClassLine, Line, Sheet, SheetError, bytes, class_kept, class_tes
 /// How many inputs each test tries.
 const INPUTS: usize = 100_000;
 
+/// What texts are made of.
+const WORDS: [&[u8]; 37] = [
+    b"class",
+    b"record",
+    b"box",
+    b" X ",
+    b" y ",
+    b"-5..3",
+    b"3..-5",
+    b"..",
+    b"2147483648",
+    b"\nbox X 1..2 Y 3..4 ",
+    b"clas",
+    b"2",
+    b"3-5",
+    b"5-3",
+    b"256",
+    b"65535",
+    b"65536",
+    b"ground",
+    b"Low_Point",
+    b"yard",
+    b"\"",
+    b"\\",
+    b"\\x41",
+    b"\"my survey\"",
+    b"\"yard  \"",
+    b"#",
+    b"\n",
+    b"\n",
+    b"\r\n",
+    b" ",
+    b" ",
+    b" ",
+    b"\t",
+    b"\xFF",
+    b"\0",
+    b"-",
+    b"class 2\nrecord yard ",
+];
+
 /// Random numbers (SplitMix64).
 struct Random(u64);
 
@@ -34,12 +75,30 @@ impl Random {
 
     /// A line of any kind, whose user ID has any bytes.
     fn line(&mut self) -> Line {
-        if self.below(2) == 0 {
-            let (one, other) = (self.byte(), self.byte());
-            return Line::classes(one.min(other), one.max(other));
+        match self.below(5) {
+            0..2 => {
+                let (one, other) = (self.byte(), self.byte());
+                Line::classes(one.min(other), one.max(other))
+            }
+            2..4 => {
+                let length = self.below(17);
+                Line::record(self.bytes(length), self.next() as u16).unwrap()
+            }
+            _ => self.bounding_box(),
         }
-        let length = self.below(17);
-        Line::record(self.bytes(length), self.next() as u16).unwrap()
+    }
+
+    /// A box, whose axes are often whole or of one value.
+    fn bounding_box(&mut self) -> Line {
+        let ranges = [(); 3].map(|()| {
+            let (one, other) = (self.next() as i32, self.next() as i32);
+            match self.below(4) {
+                0 => (i32::MIN, i32::MAX),
+                1 => (one, one),
+                _ => (one.min(other), one.max(other)),
+            }
+        });
+        Line::bounding_box(ranges.map(|(low, _)| low), ranges.map(|(_, high)| high))
     }
 
     fn lines(&mut self) -> Vec<Line> {
@@ -49,37 +108,6 @@ impl Random {
 
     /// A text of words that belong into one, in any order.
     fn text(&mut self) -> Vec<u8> {
-        const WORDS: [&[u8]; 29] = [
-            b"class",
-            b"record",
-            b"clas",
-            b"2",
-            b"3-5",
-            b"5-3",
-            b"256",
-            b"65535",
-            b"65536",
-            b"ground",
-            b"Low_Point",
-            b"yard",
-            b"\"",
-            b"\\",
-            b"\\x41",
-            b"\"my survey\"",
-            b"\"yard  \"",
-            b"#",
-            b"\n",
-            b"\n",
-            b"\r\n",
-            b" ",
-            b" ",
-            b" ",
-            b"\t",
-            b"\xFF",
-            b"\0",
-            b"-",
-            b"class 2\nrecord yard ",
-        ];
         let length = self.below(12);
         (0..length)
             .flat_map(|_| self.pick(&WORDS))

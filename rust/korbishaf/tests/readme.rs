@@ -40,6 +40,7 @@ fn the_text_of_a_sheet() {
         Line::class(9),
         Line::record("LASF_Projection", 34735).unwrap(),
         Line::record(b"my \"own\" \xFC", 7).unwrap(),
+        Line::bounding_box([-1500, 0, i32::MIN], [2000, 4000, i32::MAX]),
     ];
     assert!(sheet.lines().eq(lines));
 }

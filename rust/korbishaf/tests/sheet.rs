@@ -32,7 +32,8 @@ fn bytes_stay_as_they_are() {
 fn bytes_that_do_not_pass() {
     for (bytes, number) in [
         (&b"KT\x01"[..], 20),
-        (b"KS\x03", 21),
+        (b"KS\x00", 21),
+        (b"KS\x04", 21),
         (b"KS", 22),
         (b"K", 22),
         (&TWO_LINES[..25], 22),
@@ -161,7 +162,7 @@ fn what_was_not_read_says_why_in_words() {
         ("KS", "refused 22: a line of the sheet is cut short"),
         (
             "clas 2",
-            "line 1, column 1: expected 'class' or 'record', found 'clas'; did you mean 'class'?",
+            "line 1, column 1: expected 'class', 'record' or 'box', found 'clas'; did you mean 'class'?",
         ),
     ] {
         let refused = Sheet::read(bytes).unwrap_err();

@@ -23,7 +23,7 @@ fn all_mistaken(shared: &str, texts: &[(&str, usize, &str)]) {
 
 #[test]
 fn keywords() {
-    let shared = "expected 'class' or 'record', found ";
+    let shared = "expected 'class', 'record' or 'box', found ";
     all_mistaken(
         shared,
         &[
@@ -31,6 +31,9 @@ fn keywords() {
             ("  Class 2", 3, "'Class'; did you mean 'class'?"),
             ("RECORDS a 7", 1, "'RECORDS'; did you mean 'record'?"),
             ("\"class\" 2", 1, r#"'"class"'; did you mean 'class'?"#),
+            ("Box X 0..1", 1, "'Box'; did you mean 'box'?"),
+            ("boxes X 0..1", 1, "'boxes'; did you mean 'box'?"),
+            ("box: X 0..1", 1, "'box:'; did you mean 'box'?"),
             ("keep 2", 1, "'keep'"),
             ("2", 1, "'2'"),
             ("\0", 1, r"'\x00'"),

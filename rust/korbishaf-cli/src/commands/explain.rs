@@ -81,16 +81,20 @@ const ADVICE: [(u64, &str); 30] = [
     ),
     (
         21,
-        "Lines of kind 1 keep classes, lines of kind 2 records; there are no others.",
+        "Lines of kind 1 keep classes, lines of kind 2 records, lines of kind 3 are boxes; there are no others.",
     ),
     (
         22,
-        "A line of kind 1 has 5 bytes, one of kind 2 has 21. The sheet was cut short or has a byte too many.",
+        "A line of kind 1 has 5 bytes, one of kind 2 has 21, one of kind 3 has 27. \
+         The sheet was cut short or has a byte too many.",
     ),
-    (23, "A line of kind 1 has the lowest class first."),
+    (
+        23,
+        "A line of kind 1 has the lowest class first, one of kind 3 the low value before the high one on each axis.",
+    ),
     (
         24,
-        "A sheet has at most 64 lines. One line can keep a range of classes.",
+        "A sheet has at most 64 lines, boxes among them. One line can keep a range of classes.",
     ),
     (
         30,

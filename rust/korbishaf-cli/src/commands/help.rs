@@ -35,8 +35,9 @@ pub fn overview() -> String {
     }
     text.push_str(
         "\n'korbishaf help COMMAND' says more of one, 'korbishaf --version' which edition this is.\n\n\
-         A keep sheet is a text with lines such as 'class 2', 'class 3-5', 'class ground' or\n\
-         'record LASF_Projection 34735', or the bytes that 'korbishaf sheet' makes of it.\n\
+         A keep sheet is a text with lines such as 'class 2', 'class 3-5', 'class ground',\n\
+         'record LASF_Projection 34735' or 'box X -1500..2000 Y 0..4000', or the bytes that\n\
+         'korbishaf sheet' makes of it.\n\
          '-' stands for standard input or output.\n\n\
          Exit status: 0 done, 1 refused or not verified, 2 wrong usage, 3 reading or writing failed.\n",
     );

@@ -29,8 +29,9 @@ out, what stays, what is published whatever the sheet says, and warnings. The st
 too. What a release would refuse is refused, with the reason in words on standard error.
 
 A line for class 2 keeps the synthetic points and the key points of class 2 too; 'points by flag' says
-how many points with these flags go out. Withheld points stay whatever the sheet says, and are listed
-apart from those that stay since the sheet does not keep their class.
+how many points with these flags go out. Points that stay are listed by their reason, each once:
+withheld ones, which stay whatever the sheet says; then those whose class the sheet does not keep; then,
+where the sheet has boxes, those of kept classes that lie outside all of them.
 
 A release has every byte of a point that goes out, and of a record all but its reserved field. Of a
 text field, what stands from its first zero byte on stays, and so do the spaces before that. Counts and
@@ -38,10 +39,12 @@ bounds are worked out anew.
 
 It warns of
 
-  lines of the sheet that match nothing in IN
+  lines of the sheet that match nothing in IN, or only points that stay all the same: withheld ones, of
+    a class those outside all boxes, in a box those of classes that are not kept
+  boxes on a sheet that has no line for classes, and so keeps no point
   records that stay, though but for case or blanks a line of the sheet has their name
   a GeoKey directory that goes out without the records that its keys point to
-  withheld points, where the sheet keeps their class
+  withheld points that the sheet would keep otherwise
   all or none of the points going out, withheld ones not counted
   points by return and bounds that IN states wrongly
 

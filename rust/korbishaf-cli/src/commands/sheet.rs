@@ -32,10 +32,18 @@ A text has lines like these; what follows a '#' is a comment:
   class ground                   by a class's name in LAS 1.2
   record LASF_Projection 34735   records with that user ID and record ID
   record \"my survey\" 7           a user ID with a blank stands in double quotes
+  box X -1500..2000 Y 0..4000    a box in stored values: where there are boxes, only points in one go out
 
 A class is the lower five bits of a point's classification byte, without the flags above them: 'class 2'
 keeps the synthetic points and the key points of class 2 too (the bytes 34, 66 and 98). Withheld points
 never go out. A line may have classes up to 255; in point formats 0 to 3 no point has one above 31.
+
+A point goes out if a line has its class and, where the sheet has boxes, it lies in one of them, edges
+included. A box alone keeps no point: for all that is in it, add the line 'class 0-31'. A box has one to
+three axes, X, Y and Z, each with its low and its high value; an axis that is left out is not bounded.
+The values are those that the file stores, whole numbers from -2147483648 to 2147483647, and no
+coordinates: a coordinate is stored value times scale plus offset. 'korbishaf show' has the scales, the
+offsets, and the stored values beside the bounds. Records are kept whether there are boxes or not.
 
 Spaces at the end of a user ID do not count, neither here nor in a scan: 'record yard 7' also keeps the
 records of a maker who fills user IDs with spaces. A sheet has at most 64 lines; an empty one keeps
@@ -48,7 +56,8 @@ With --class it says which line of the sheet keeps a class, and prints nothing e
 
 The first line that holds the class answers, and those behind it are not looked at; a sheet with a fault
 in any line is refused all the same. CLASS is a number from 0 to 255, without flags in it, or a name.
-Either answer has the exit status 0. Withheld points never go out, even where their class is kept.
+Either answer has the exit status 0. Lines of boxes are counted, and hold no class: where a class is
+kept, its withheld points stay all the same, and so do its points outside all boxes of the sheet.
 ",
     run,
 };

@@ -6,6 +6,7 @@ mod text;
 use crate::arguments::Arguments;
 use crate::command::{Command, Flag};
 use crate::facts::Facts;
+use crate::facts::boxes::Boxes;
 use crate::failure::Failure;
 use crate::input::Opened;
 use crate::progress::Progress;
@@ -30,7 +31,8 @@ out.
 
 The header states points by return and bounds, which may be wrong: both are there as stated and as they
 actually are, and 'differs' marks what is not the same. The actual bounds are the coordinates of the
-largest and the smallest stored values; without points they are 0.
+largest and the smallest stored values, which stand beside them; without points they are 0. A coordinate
+is stored value times scale plus offset; a box on a keep sheet is written in stored values.
 
 GeoKeys stand in the order of the directory: shorts and doubles as numbers, texts in quotes as they are,
 with a '|' at the end if there is one, and cut behind 255 bytes. Where a key can't be read, the number
@@ -51,7 +53,7 @@ fn run(arguments: &Arguments) -> Result<(), Failure> {
     let progress = Progress::new(arguments.quiet);
     let file = opened.read(&progress)?;
     room::is_left_beside(&name)?;
-    let facts = Facts::of(&file, &progress);
+    let facts = Facts::of(&file, &Boxes::none(), &progress);
     drop(progress);
     let facts =
         facts.map_err(|refused| Failure::Refused(refusal::of_file(&name, &file, &refused)))?;

@@ -8,6 +8,7 @@ use super::list::parts::Cutting;
 use super::report::plan::Plan;
 use super::{geokey, list, report, show};
 use crate::facts::Facts;
+use crate::facts::boxes::Boxes;
 use crate::keep_sheet::KeepSheet;
 use crate::progress::Progress;
 use crate::releasing::Stopped;
@@ -119,7 +120,7 @@ fn number(answer: Result<(), Error>) -> u64 {
 }
 
 fn number_shown(file: &[u8]) -> u64 {
-    let facts = Facts::of(file, &Progress::none());
+    let facts = Facts::of(file, &Boxes::none(), &Progress::none());
     number_of(facts, |out, facts, json| {
         show::write(out, "in.las", facts, json)
     })

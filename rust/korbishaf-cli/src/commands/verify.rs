@@ -35,10 +35,10 @@ Each file has a line, in order, and the last line says how many were verified:
 A file that passes the checks and is not verified has the first byte that differs in its line, counted
 from 0, with the part of the file that it is in, what stands in that part and what a release has there.
 The lines below say what is in the file that a release would not have: records and points that the sheet
-does not keep; withheld points; bytes behind the last counted point, between the records and the points,
-behind the header, in reserved fields and behind the end of a text, spaces too; counts by return and
-bounds that are not those of the file's own points. These lines explain and do not decide. Of those about
-records the first 32 are there, and how many more.
+does not keep, by class or since they lie outside all of its boxes; withheld points; bytes behind the
+last counted point, between the records and the points, behind the header, in reserved fields and behind
+the end of a text, spaces too; counts by return and bounds that are not those of the file's own points.
+These lines explain and do not decide. Of those about records the first 32 are there, and how many more.
 
 A file that a library of a lower level released ('korbishaf --version' says the level) may have what a
 release no longer has, and is not verified then: spaces at the end of a text, from below level 2, and

@@ -90,6 +90,7 @@ pub fn bounds(bounds: &[Bound]) -> Json {
             ("stated", Json::Double(bound.values.stated)),
             ("actual", Json::Double(bound.values.actual)),
             ("differs", Json::Bool(bound.values.differs())),
+            ("stored", bound.stored.map_or(Json::Null, Json::number)),
         ]);
         (bound.member, values)
     });

@@ -29,6 +29,8 @@ pub struct Bound {
     pub member: &'static str,
     /// Its values.
     pub values: Compared<f64>,
+    /// The stored value that the actual one is the coordinate of; none without points.
+    pub stored: Option<i32>,
 }
 
 /// The names of the bounds in JSON, in the order of the header.
@@ -49,9 +51,11 @@ pub fn bounds(header: &Header<'_>, tally: &Tally) -> [Bound; 6] {
     std::array::from_fn(|index| {
         let (axis, is_smallest) = (index / 2, index % 2 == 1);
         let stated = if is_smallest { header.min } else { header.max };
-        let actual = tally.extremes.map_or(0.0, |extremes| {
+        let stored = tally.extremes.map(|extremes| {
             let (smallest, largest) = extremes[axis];
-            let stored = if is_smallest { smallest } else { largest };
+            if is_smallest { smallest } else { largest }
+        });
+        let actual = stored.map_or(0.0, |stored| {
             coordinate(stored, header.scale[axis], header.offset[axis])
         });
         let (name, member) = (BOUNDS[index].name, MEMBERS[index]);
@@ -63,6 +67,7 @@ pub fn bounds(header: &Header<'_>, tally: &Tally) -> [Bound; 6] {
             name,
             member,
             values,
+            stored,
         }
     })
 }

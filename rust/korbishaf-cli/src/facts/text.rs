@@ -89,29 +89,28 @@ pub fn returns(facts: &Facts<'_>) -> impl Display {
             mark(compared).to_string(),
         ]
     });
-    Table::new(&[Side::Right; 3], titles().into_iter().chain(rows))
+    let titles = ["", "stated", "actual", ""].map(String::from);
+    Table::new(&[Side::Right; 3], [titles].into_iter().chain(rows))
 }
 
-/// The bounds.
+/// The bounds, with the stored values that the actual ones come from.
 pub fn bounds(bounds: &[Bound]) -> impl Display {
-    let rows = bounds.iter().map(|Bound { name, values, .. }| {
-        let (stated, actual) = (values.stated, values.actual);
+    let titles = ["", "stated", "actual", "stored", ""].map(String::from);
+    let rows = bounds.iter().map(|bound| {
+        let (stated, actual) = (bound.values.stated, bound.values.actual);
+        let stored = bound.stored.map_or("-".into(), |stored| stored.to_string());
         [
-            name.to_string(),
+            bound.name.to_string(),
             format!("{stated:?}"),
             format!("{actual:?}"),
-            mark(Some(values)).to_string(),
+            stored,
+            mark(Some(&bound.values)).to_string(),
         ]
     });
     Table::new(
-        &[Side::Left, Side::Right, Side::Right],
-        titles().into_iter().chain(rows),
+        &[Side::Left, Side::Right, Side::Right, Side::Right],
+        [titles].into_iter().chain(rows),
     )
-}
-
-/// The row above stated and actual values.
-fn titles() -> [[String; 4]; 1] {
-    [["", "stated", "actual", ""].map(String::from)]
 }
 
 /// The mark of a stated value that is not the actual one.

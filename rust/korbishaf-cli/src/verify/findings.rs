@@ -55,6 +55,8 @@ pub enum What {
     PointsNotKept { class: u8, points: Points },
     /// Points that are withheld, of whatever class.
     PointsWithheld { points: Points },
+    /// Points outside all boxes of the sheet, of classes that it keeps and not withheld.
+    PointsOutside { points: Points },
     /// Bytes behind the last counted point that are not all zero, as many as so many whole points and bytes.
     BehindPoints { whole: usize, over: usize },
 }

@@ -13,8 +13,9 @@ const FILES: usize = 10_000;
 
 /// A file and a sheet: the file is often a released one, and often damaged.
 fn case(rng: &mut Rng) -> (Vec<u8>, Sheet) {
-    let sheet = Sheet::from_bytes(SheetSpec::random(rng).bytes()).unwrap();
-    let mut file = FileSpec::random(rng).bytes();
+    let spec = FileSpec::random(rng);
+    let sheet = Sheet::from_bytes(SheetSpec::random_for(rng, &spec).bytes()).unwrap();
+    let mut file = spec.bytes();
     if rng.chance(70) {
         file = korbishaf::release_to_vec(&file, &sheet).unwrap();
     }
@@ -117,7 +118,7 @@ fn all_that_differs_is_explained() {
         }
     });
     // more than 32 findings in records do not come by chance
-    assert_eq!(seen.len(), 9, "{seen:?}");
+    assert_eq!(seen.len(), 10, "{seen:?}");
 }
 
 #[test]
@@ -149,6 +150,7 @@ fn kind(what: &What) -> &'static str {
         What::Gap { .. } => "gap",
         What::PointsNotKept { .. } => "points",
         What::PointsWithheld { .. } => "withheld",
+        What::PointsOutside { .. } => "outside",
         What::BehindPoints { .. } => "behind",
     }
 }

@@ -1,5 +1,7 @@
 //! What `korbishaf report` warns of, in text and in JSON.
 
+#![allow(dead_code, reason = "not every test uses everything")]
+
 use super::common::Scratch;
 use super::common::json::{self, Value};
 use compare::spec::FileSpec;

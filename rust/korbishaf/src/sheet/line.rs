@@ -1,5 +1,6 @@
 //! Lines of a sheet.
 
+use super::bounds;
 use super::user_id::{LongUserId, UserId};
 use std::fmt;
 use std::iter::FusedIterator;
@@ -17,13 +18,16 @@ pub(super) const MARK: &[u8; 2] = b"KS";
 /// assert_eq!(Line::class(2).to_string(), "class 2");
 /// assert_eq!(Line::classes(3, 5).to_string(), "class 3-5");
 /// assert_eq!(Line::record("LASF_Projection", 34735)?.to_string(), "record LASF_Projection 34735");
+/// let anywhere_in_z = Line::bounding_box([-50, 0, i32::MIN], [900, 40, i32::MAX]);
+/// assert_eq!(anywhere_in_z.to_string(), "box X -50..900 Y 0..40");
 /// # Ok::<(), korbishaf::LongUserId>(())
 /// ```
 #[derive(Clone, Copy, Debug, PartialEq, Eq, Hash)]
 #[non_exhaustive]
 pub enum Line {
     /// Points whose class is from the lowest to the highest, both included, with any
-    /// [flags](crate#classes-and-flags) but withheld.
+    /// [flags](crate#classes-and-flags) but withheld. Where the sheet has [boxes](crate#boxes), these points have to
+    /// lie in one of them.
     Classes {
         /// The lowest class.
         lowest: u8,
@@ -36,6 +40,14 @@ pub enum Line {
         user_id: UserId,
         /// The record ID.
         record_id: u16,
+    },
+    /// A [box](crate#boxes) in stored values: where a sheet has such lines, a point goes out only if it lies in one of
+    /// them, edges included. By itself it keeps no point, since no class is kept by it.
+    Box {
+        /// The lowest stored X, Y and Z.
+        low: [i32; 3],
+        /// The highest stored X, Y and Z.
+        high: [i32; 3],
     },
 }
 
@@ -62,6 +74,14 @@ impl Line {
         Ok(Line::Record { user_id, record_id })
     }
 
+    /// The line of a box, by its lowest and its highest stored X, Y and Z, which belong to it.
+    ///
+    /// They are the values that a file [stores](crate#boxes), and no coordinates.
+    #[must_use]
+    pub fn bounding_box(low: [i32; 3], high: [i32; 3]) -> Self {
+        Line::Box { low, high }
+    }
+
     /// Writes the line's bytes behind those that are there.
     pub(super) fn append_to(&self, bytes: &mut Vec<u8>) {
         bytes.extend(MARK);
@@ -71,6 +91,10 @@ impl Line {
                 bytes.push(2);
                 bytes.extend(user_id.field());
                 bytes.extend(record_id.to_le_bytes());
+            }
+            Line::Box { low, high } => {
+                bytes.push(3);
+                bytes.extend(bounds::to_bytes(*low, *high));
             }
         }
     }
@@ -92,6 +116,11 @@ impl Line {
                 };
                 Some((line, rest))
             }
+            3 => {
+                let (body, rest) = body.split_first_chunk()?;
+                let (low, high) = bounds::from_bytes(body);
+                Some((Line::Box { low, high }, rest))
+            }
             _ => None,
         }
     }
@@ -103,6 +132,7 @@ impl fmt::Display for Line {
             Line::Classes { lowest, highest } if lowest == highest => write!(f, "class {lowest}"),
             Line::Classes { lowest, highest } => write!(f, "class {lowest}-{highest}"),
             Line::Record { user_id, record_id } => write!(f, "record {user_id} {record_id}"),
+            Line::Box { low, high } => bounds::write(f, low, high),
         }
     }
 }
@@ -154,6 +184,6 @@ mod tests {
                 }
             }
         }
-        assert_eq!(passed, [(1, 5), (2, 21)]);
+        assert_eq!(passed, [(1, 5), (2, 21), (3, 27)]);
     }
 }

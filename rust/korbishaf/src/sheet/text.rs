@@ -1,5 +1,6 @@
 //! The text form of a sheet.
 
+mod axes;
 mod class_names;
 mod cursor;
 mod error;
@@ -89,9 +90,11 @@ fn read_line(cursor: &mut Cursor<'_>, keyword: Word<'_>) -> Result<Line, TextErr
             expect_end(cursor, QUOTES)?;
             Ok(line)
         }
+        b"box" => axes::read(cursor),
         other => {
-            let guess = did_you_mean(other, ["class", "record"]);
-            let words = format!("expected 'class' or 'record', {}{guess}", found(other));
+            let guess = did_you_mean(other, ["class", "record", "box"]);
+            let found = found(other);
+            let words = format!("expected 'class', 'record' or 'box', {found}{guess}");
             Err(cursor.error(keyword.at, words))
         }
     }
@@ -113,7 +116,7 @@ fn read_classes(cursor: &mut Cursor<'_>) -> Result<Line, TextError> {
         let words = format!("{A_CLASS}, {}{hint}", found(word.bytes));
         return Err(cursor.error(word.at, words));
     }
-    let (first, last) = word.split_at_byte(b'-');
+    let (first, last) = word.split_at(b"-");
     let lowest = read_class(cursor, first, A_CLASS)?;
     let highest = last.map_or(Ok(lowest), |last| read_class(cursor, last, A_HIGHEST))?;
     if lowest > highest {

@@ -2,7 +2,9 @@
 
 use super::name::{self, Name};
 use crate::facts::Facts;
-use crate::facts::class::{CLASSES, ClassByte, Flag, WITHHELD};
+use crate::facts::boxes::Boxes;
+use crate::facts::class::{CLASSES, Flag};
+use crate::facts::group::{Group, Outcome};
 use crate::keep_sheet::KeepSheet;
 use crate::progress::Progress;
 use crate::releasing;
@@ -33,7 +35,7 @@ impl<'a> Plan<'a> {
         let length = releasing::needed(file, &keep_sheet.bytes, progress)?;
         let sheet = Sheet::from_bytes(&*keep_sheet.bytes)?;
         Ok(Plan {
-            facts: Facts::of(file, progress)?,
+            facts: Facts::of(file, &Boxes::of(&sheet), progress)?,
             kept_classes: std::array::from_fn(|class| class_kept(&sheet, class as u8)),
             kept_names: kept_names(&sheet),
             sheet,
@@ -47,9 +49,9 @@ impl<'a> Plan<'a> {
         self.kept_classes[usize::from(class)]
     }
 
-    /// Whether points go out: those of a kept class that are not withheld.
-    fn goes_out(&self, point: ClassByte) -> bool {
-        self.keeps_class(point.class()) && !point.has(WITHHELD)
+    /// What becomes of points.
+    pub fn outcome(&self, points: Group) -> Outcome {
+        points.outcome(|class| self.keeps_class(class))
     }
 
     /// Whether a record goes out.
@@ -57,22 +59,16 @@ impl<'a> Plan<'a> {
         self.kept_names.contains(&name::of(record))
     }
 
-    /// The classes of the points that go out, or of those that stay since the sheet does not keep them, with the
-    /// numbers of these.
-    pub fn classes(&self, going_out: bool) -> impl Iterator<Item = (u8, u64)> + Clone {
-        let classes = self.facts.tally.classes(|point| !point.has(WITHHELD));
-        classes.filter(move |&(class, _)| self.keeps_class(class) == going_out)
-    }
-
-    /// The classes of the points that stay since they are withheld, with the numbers of these.
-    pub fn withheld(&self) -> impl Iterator<Item = (u8, u64)> + Clone {
+    /// The classes of the points with that outcome, with the numbers of these.
+    pub fn classes(&self, outcome: Outcome) -> impl Iterator<Item = (u8, u64)> + Clone {
         let tally = &self.facts.tally;
-        tally.classes(|point| point.has(WITHHELD))
+        tally.classes(move |points| self.outcome(points) == outcome)
     }
 
     /// Each flag, with the number of points that have it and go out.
     pub fn flags(&self) -> [(Flag, u64); 3] {
-        self.facts.tally.flags(|point| self.goes_out(point))
+        let tally = &self.facts.tally;
+        tally.flags(|points| self.outcome(points) == Outcome::GoOut)
     }
 
     /// The same without the flags that none of these points has.
@@ -84,7 +80,7 @@ impl<'a> Plan<'a> {
     /// The number of points that go out, or that stay.
     pub fn points(&self, going_out: bool) -> u64 {
         let tally = &self.facts.tally;
-        tally.points(|point| self.goes_out(point) == going_out)
+        tally.points(|points| (self.outcome(points) == Outcome::GoOut) == going_out)
     }
 
     /// The records that go out, or those that stay, with their numbers in the file, from 1.
@@ -115,10 +111,9 @@ mod tests {
         for seed in seeds() {
             let mut rng = Rng::new(seed);
             for _ in 0..2000 {
-                let (file, bytes) = (
-                    FileSpec::random(&mut rng).bytes(),
-                    SheetSpec::random(&mut rng).bytes(),
-                );
+                let spec = FileSpec::random(&mut rng);
+                let sheet = SheetSpec::random_for(&mut rng, &spec);
+                let (file, bytes) = (spec.bytes(), sheet.bytes());
                 let keep_sheet = KeepSheet::of_bytes("sheet.bin", bytes);
                 let plan = Plan::of(&file, &keep_sheet, &Progress::none()).unwrap();
                 check(&file, &plan);
@@ -142,29 +137,56 @@ mod tests {
         assert!(seen.iter().all(|&count| count > 500), "{seen:?}");
     }
 
+    /// All that may become of points.
+    const OUTCOMES: [Outcome; 4] = [
+        Outcome::GoOut,
+        Outcome::Withheld,
+        Outcome::ClassNotKept,
+        Outcome::OutsideBoxes,
+    ];
+
     #[test]
     fn the_points_that_go_out_are_those_of_a_release() {
-        let mut seen = [0; 3];
+        let mut seen = [0; 4];
         each(|file, plan| {
             let out = korbishaf::release_to_vec(file, &plan.sheet).unwrap();
-            let released = Facts::of(&out, &Progress::none()).unwrap().tally;
-            assert!(plan.classes(true).eq(released.classes(|_| true)));
+            let released = Facts::of(&out, &Boxes::none(), &Progress::none()).unwrap();
+            let released = released.tally;
+            let going_out = plan.classes(Outcome::GoOut);
+            assert!(going_out.eq(released.classes(|_| true)));
             assert_eq!(plan.flags(), released.flags(|_| true));
             // each point is in one of the lists
-            let counts = [
-                plan.classes(true).map(|(_, points)| points).sum(),
-                plan.classes(false).map(|(_, points)| points).sum(),
-                plan.withheld().map(|(_, points)| points).sum::<u64>(),
-            ];
-            let [out, not_kept, withheld] = counts;
-            assert_eq!(
-                [true, false].map(|is| plan.points(is)),
-                [out, not_kept + withheld]
-            );
-            let all = out + not_kept + withheld;
-            assert_eq!(all, u64::from(plan.facts.header.point_count));
+            let counts = OUTCOMES.map(|outcome| {
+                let classes = plan.classes(outcome);
+                classes.map(|(_, points)| points).sum::<u64>()
+            });
+            let (out, staying) = (counts[0], counts[1..].iter().sum());
+            assert_eq!([true, false].map(|is| plan.points(is)), [out, staying]);
+            assert_eq!(out + staying, u64::from(plan.facts.header.point_count));
             seen = std::array::from_fn(|list| seen[list] + counts[list]);
         });
         assert!(seen.iter().all(|&count| count > 500), "{seen:?}");
+    }
+
+    /// A box that holds points has them in the tally, and no other has.
+    #[test]
+    fn the_points_in_a_box_are_those_that_it_holds() {
+        let mut seen = [0; 2];
+        each(|file, plan| {
+            let boxes = plan.sheet.lines().filter_map(|line| match line {
+                Line::Box { low, high } => Some((low, high)),
+                _ => None,
+            });
+            for (index, (low, high)) in boxes.enumerate() {
+                let points = korbishaf::points(file).unwrap();
+                let holds = points.map(|found| found.point).any(|point| {
+                    let stored = [point.x, point.y, point.z];
+                    (0..3).all(|axis| low[axis] <= stored[axis] && stored[axis] <= high[axis])
+                });
+                assert_eq!(plan.facts.tally.groups_in(index).count() > 0, holds);
+                seen[usize::from(holds)] += 1;
+            }
+        });
+        assert!(seen.iter().all(|&count| count > 100), "{seen:?}");
     }
 }

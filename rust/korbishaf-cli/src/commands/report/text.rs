@@ -2,6 +2,7 @@
 
 use super::plan::Plan;
 use super::warning::Warning;
+use crate::facts::group::Outcome;
 use crate::facts::header::{self, Published};
 use crate::facts::text;
 use crate::shown::counted;
@@ -12,8 +13,18 @@ use std::io::{self, Write};
 /// How many names of a point's fields stand in a line.
 const NAMES_IN_LINE: usize = 4;
 
-/// What stands above the withheld points.
-const WITHHELD: &str = "withheld points by class, which stay whatever the sheet says";
+/// What stands above the points that stay, for each reason.
+const STAYING: [(Outcome, &str); 3] = [
+    (Outcome::ClassNotKept, "points by class"),
+    (
+        Outcome::Withheld,
+        "withheld points by class, which stay whatever the sheet says",
+    ),
+    (
+        Outcome::OutsideBoxes,
+        "points outside all boxes by class, which stay though their class is kept",
+    ),
+];
 
 /// Writes the plan in sections, the warnings last.
 pub fn write(
@@ -29,9 +40,15 @@ pub fn write(
         "\nGoes out: a file of {length} with {}",
         share(plan, true)
     )?;
-    write_share(out, plan, true)?;
+    write_classes(out, plan, Outcome::GoOut, "points by class")?;
+    let flags = text::flags(plan.set_flags());
+    write!(out, "{}", flags.under("points by flag"))?;
+    write_records(out, plan, true)?;
     writeln!(out, "\nStays: {}", share(plan, false))?;
-    write_share(out, plan, false)?;
+    for (outcome, title) in STAYING {
+        write_classes(out, plan, outcome, title)?;
+    }
+    write_records(out, plan, false)?;
     write!(out, "{}", text::parts(&plan.facts))?;
     write!(
         out,
@@ -53,17 +70,19 @@ fn share(plan: &Plan<'_>, going_out: bool) -> String {
     )
 }
 
-/// Writes the points by class and what their flags say, and the records.
-fn write_share(out: &mut dyn Write, plan: &Plan<'_>, going_out: bool) -> io::Result<()> {
-    let classes = text::classes(plan.classes(going_out));
-    write!(out, "{}", classes.under("points by class"))?;
-    if going_out {
-        let flags = text::flags(plan.set_flags());
-        write!(out, "{}", flags.under("points by flag"))?;
-    } else {
-        let withheld = text::classes(plan.withheld());
-        write!(out, "{}", withheld.under(WITHHELD))?;
-    }
+/// Writes the points with an outcome by class, below a title.
+fn write_classes(
+    out: &mut dyn Write,
+    plan: &Plan<'_>,
+    outcome: Outcome,
+    title: &'static str,
+) -> io::Result<()> {
+    let classes = text::classes(plan.classes(outcome));
+    write!(out, "{}", classes.under(title))
+}
+
+/// Writes the records that go out, or that stay.
+fn write_records(out: &mut dyn Write, plan: &Plan<'_>, going_out: bool) -> io::Result<()> {
     let records = text::records(plan.records(going_out));
     write!(out, "{}", records.under("records"))
 }

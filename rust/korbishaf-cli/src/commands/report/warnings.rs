@@ -1,5 +1,6 @@
 //! What a report warns of.
 
+mod boxes;
 mod near_names;
 mod points;
 mod projection;
@@ -12,6 +13,7 @@ use super::warning::Warning;
 /// The warnings of a plan: of the sheet's lines first, then of records and points, then of the header.
 pub fn of(plan: &Plan<'_>) -> Vec<Warning> {
     let mut warnings = sheet_lines::of(plan);
+    warnings.extend(boxes::of(plan));
     warnings.extend(near_names::of(plan));
     warnings.extend(projection::of(plan));
     warnings.extend(points::of(plan));

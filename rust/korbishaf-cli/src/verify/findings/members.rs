@@ -35,6 +35,7 @@ impl What {
             What::Gap { .. } => "gap",
             What::PointsNotKept { .. } => "points_not_kept",
             What::PointsWithheld { .. } => "points_withheld",
+            What::PointsOutside { .. } => "points_outside_boxes",
             What::BehindPoints { .. } => "behind_points",
         }
     }
@@ -69,7 +70,9 @@ impl What {
                 let class = ("class", Json::number(*class));
                 [class].into_iter().chain(of_points(points)).collect()
             }
-            What::PointsWithheld { points } => of_points(points).into(),
+            What::PointsWithheld { points } | What::PointsOutside { points } => {
+                of_points(points).into()
+            }
             What::BehindPoints { whole, .. } => vec![("whole_points", Json::count(*whole))],
         }
     }

@@ -1,8 +1,11 @@
-//! Findings about the points: what is before and behind them, their classes, and what the header states of them.
+//! Findings about the points: what is before and behind them, which of them a release would not have, and what the
+//! header states of them.
 
 use super::super::parts;
 use super::{Finding, Points, What, all_zero};
-use crate::facts::class::{CLASSES, ClassByte, WITHHELD};
+use crate::facts::boxes::Boxes;
+use crate::facts::class::CLASSES;
+use crate::facts::group::{Group, Outcome};
 use crate::facts::stated;
 use crate::facts::tally::Tally;
 use crate::layout::{BOUNDS, BY_RETURN};
@@ -17,38 +20,41 @@ pub fn find(
     let end = parts::points_end(file).unwrap_or(file.len());
     let mut found = Vec::new();
     if let Ok(points) = korbishaf::points(file) {
-        let tally = Tally::of(points, |_| {});
+        let tally = Tally::of(points, &Boxes::of(sheet), |_| {});
         found.extend(wrong(file, header, &tally));
-        found.extend(not_kept(header, &tally, sheet));
-        found.extend(withheld(header, &tally));
+        found.extend(staying(header, &tally, sheet));
     }
     found.extend(gap(file, header, records_end));
     found.extend(behind(file, end, usize::from(header.record_length)));
     found.into_iter()
 }
 
-/// The points of each class that the sheet does not keep.
-fn not_kept(header: &Header<'_>, tally: &Tally, sheet: &Sheet) -> impl Iterator<Item = Finding> {
-    let classes = (0..CLASSES).filter(|&class| !class_kept(sheet, class));
-    classes.filter_map(move |class| {
-        let such = |point: ClassByte| point.class() == class && !point.has(WITHHELD);
+/// The points that a release would not have, each once: by class where the sheet does not keep that, and else together.
+fn staying(header: &Header<'_>, tally: &Tally, sheet: &Sheet) -> Vec<Finding> {
+    let kept: [bool; CLASSES as usize] =
+        std::array::from_fn(|class| class_kept(sheet, class as u8));
+    let outcome = |points: Group| points.outcome(|class| kept[usize::from(class)]);
+    let mut found = Vec::new();
+    for class in 0..CLASSES {
+        let such =
+            |points: Group| points.class() == class && outcome(points) == Outcome::ClassNotKept;
         let what = |points| What::PointsNotKept { class, points };
-        of_points(header, tally, such, what)
-    })
+        found.extend(of_points(header, tally, such, what));
+    }
+    let withheld = |points| What::PointsWithheld { points };
+    let such = |points| outcome(points) == Outcome::Withheld;
+    found.extend(of_points(header, tally, such, withheld));
+    let outside = |points| What::PointsOutside { points };
+    let such = |points| outcome(points) == Outcome::OutsideBoxes;
+    found.extend(of_points(header, tally, such, outside));
+    found
 }
 
-/// The points that no sheet keeps.
-fn withheld(header: &Header<'_>, tally: &Tally) -> Option<Finding> {
-    let such = |point: ClassByte| point.has(WITHHELD);
-    let what = |points| What::PointsWithheld { points };
-    of_points(header, tally, such, what)
-}
-
-/// What the points with such classification bytes are; nothing where there are none.
+/// What the points of such groups are; nothing where there are none.
 fn of_points(
     header: &Header<'_>,
     tally: &Tally,
-    such: impl Fn(ClassByte) -> bool,
+    such: impl Fn(Group) -> bool,
     what: impl FnOnce(Points) -> What,
 ) -> Option<Finding> {
     let (count, first) = (tally.points(&such) as usize, tally.first(&such)? as usize);

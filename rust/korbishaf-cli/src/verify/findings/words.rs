@@ -39,21 +39,27 @@ impl Finding {
                 let zero = zero(*all_zero);
                 format!("{bytes} between the {behind} and the points{zero}")
             }
-            What::PointsNotKept { class, points } => not_kept(*class, points, &bytes),
+            What::PointsNotKept { class, points } => not_kept(&of_class(*class), points, &bytes),
             What::PointsWithheld { points } => withheld(points, &bytes),
+            What::PointsOutside { points } => not_kept("outside all boxes", points, &bytes),
             What::BehindPoints { whole, over } => behind(*whole, *over, &bytes),
         }
     }
 }
 
-fn not_kept(class: u8, points: &Points, bytes: &str) -> String {
-    let (counted, name) = (counted(points.count, "point"), class::name(class));
+/// Points that the sheet does not keep, and what they have in common.
+fn not_kept(in_common: &str, points: &Points, bytes: &str) -> String {
+    let counted = counted(points.count, "point");
     let them = match points.count {
         1 => "it",
         _ => "them",
     };
     let which = which(points);
-    format!("{counted} of class {class} ({name}), {bytes}: the sheet does not keep {them}; {which}")
+    format!("{counted} {in_common}, {bytes}: the sheet does not keep {them}; {which}")
+}
+
+fn of_class(class: u8) -> String {
+    format!("of class {class} ({})", class::name(class))
 }
 
 fn withheld(points: &Points, bytes: &str) -> String {

@@ -68,18 +68,20 @@ impl<'a> Cursor<'a> {
 }
 
 impl<'a> Word<'a> {
-    /// The parts before and behind the first such byte; the whole and none where there is no such byte.
-    pub(super) fn split_at_byte(self, byte: u8) -> (Word<'a>, Option<Word<'a>>) {
-        match self.bytes.iter().position(|&other| other == byte) {
+    /// The parts before and behind the first such separator; the whole and none where there is none.
+    pub(super) fn split_at(self, separator: &[u8]) -> (Word<'a>, Option<Word<'a>>) {
+        let mut parts = self.bytes.windows(separator.len());
+        match parts.position(|part| part == separator) {
             None => (self, None),
             Some(length) => {
+                let behind = length + separator.len();
                 let first = Word {
                     at: self.at,
                     bytes: &self.bytes[..length],
                 };
                 let last = Word {
-                    at: self.at + length + 1,
-                    bytes: &self.bytes[length + 1..],
+                    at: self.at + behind,
+                    bytes: &self.bytes[behind..],
                 };
                 (first, Some(last))
             }

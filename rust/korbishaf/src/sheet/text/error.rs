@@ -14,7 +14,7 @@ const SHOWN: usize = 32;
 /// assert_eq!((mistake.line(), mistake.column()), (2, 1));
 /// assert_eq!(
 ///     mistake.to_string(),
-///     "line 2, column 1: expected 'class' or 'record', found 'clas'; did you mean 'class'?"
+///     "line 2, column 1: expected 'class', 'record' or 'box', found 'clas'; did you mean 'class'?"
 /// );
 /// ```
 #[derive(Clone, PartialEq, Eq, Hash)]

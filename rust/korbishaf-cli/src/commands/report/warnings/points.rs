@@ -2,16 +2,18 @@
 
 use super::super::plan::Plan;
 use super::super::warning::Warning;
-use crate::facts::class;
+use crate::facts::class::{self, WITHHELD};
+use crate::facts::group::Outcome;
 use crate::json::Json;
 use crate::shown::counted;
 
 /// The warnings.
 pub fn of(plan: &Plan<'_>) -> Vec<Warning> {
-    let of_kept_classes = plan
-        .withheld()
-        .filter(|&(class, _)| plan.keeps_class(class));
-    let mut warnings: Vec<_> = of_kept_classes.map(withheld_stays).collect();
+    // those outside all boxes would stay anyway, as those of other classes would
+    let otherwise_kept = plan.facts.tally.classes(|points| {
+        points.has(WITHHELD) && !points.outside && plan.keeps_class(points.class())
+    });
+    let mut warnings: Vec<_> = otherwise_kept.map(withheld_stays).collect();
     warnings.extend(all_or_none(plan));
     warnings
 }
@@ -34,12 +36,15 @@ fn withheld_stays((class, points): (u8, u64)) -> Warning {
 fn all_or_none(plan: &Plan<'_>) -> Option<Warning> {
     let (going_out, staying) = (plan.points(true), plan.points(false));
     let total = going_out + staying;
-    let only_withheld_stay = plan.classes(false).next().is_none();
+    let withheld: u64 = plan
+        .classes(Outcome::Withheld)
+        .map(|(_, points)| points)
+        .sum();
     let (kind, which) = match (going_out, staying) {
         (0, 0) => return None,
         (0, _) => ("no_point_goes_out", "no point"),
         (_, 0) => ("every_point_goes_out", "every point"),
-        _ if only_withheld_stay => ("every_point_goes_out", "every point that is not withheld"),
+        _ if staying == withheld => ("every_point_goes_out", "every point that is not withheld"),
         _ => return None,
     };
     let words = format!("{which} goes out ({going_out} of {total})");

@@ -1,48 +1,55 @@
 //! Lines of the sheet that match nothing.
 
+mod held;
+
 use super::super::name;
 use super::super::plan::Plan;
 use super::super::warning::Warning;
+use super::boxes;
 use crate::facts::class::{CLASSES, ClassByte, WITHHELD};
 use crate::json::Json;
-use korbishaf::{Line, Sheet, class_kept};
+use held::Held;
+use korbishaf::Line;
 use std::collections::BTreeSet;
 
 /// The warnings, in the order of the lines.
 pub fn of(plan: &Plan<'_>) -> Vec<Warning> {
-    let mut unseen: BTreeSet<_> = plan
-        .sheet
-        .lines()
-        .filter_map(|line| name::of_line(&line))
-        .collect();
+    let unseen = unseen_names(plan);
+    let names_classes = boxes::names_classes(plan);
+    let mut box_indices = 0..;
+    let lines = plan.sheet.lines().enumerate();
+    let warnings = lines.filter_map(|(index, line)| {
+        let held = match line {
+            Line::Classes { .. } => Held::by_classes(plan, &line),
+            Line::Box { .. } => Held::by_box(plan, box_indices.next()?),
+            _ => {
+                let is_unseen = unseen.contains(&name::of_line(&line)?);
+                return is_unseen.then(|| warning(plan, index, &line, ""));
+            }
+        };
+        // where there are no lines for classes, no box has points that go out, and that is said once
+        let is_idle = held.is_idle() && (names_classes || held.is_empty());
+        is_idle.then(|| warning(plan, index, &line, &held.words()))
+    });
+    warnings.collect()
+}
+
+/// The names that lines of the sheet have and no record has.
+fn unseen_names(plan: &Plan<'_>) -> BTreeSet<name::Name> {
+    let lines = plan.sheet.lines();
+    let mut unseen: BTreeSet<_> = lines.filter_map(|line| name::of_line(&line)).collect();
     for record in plan.facts.records() {
         if unseen.is_empty() {
             break;
         }
         unseen.remove(&name::of(&record));
     }
-    let not_withheld = plan.facts.tally.classes(|point| !point.has(WITHHELD));
-    let lines = plan.sheet.lines().enumerate();
-    let idle = lines.filter(|(_, line)| match name::of_line(line) {
-        Some(name) => unseen.contains(&name),
-        None => !keeps_any(not_withheld.clone(), line),
-    });
-    idle.map(|(index, line)| warning(plan, index, &line))
-        .collect()
+    unseen
 }
 
-/// Whether a line keeps one of these classes, by what the library says of a sheet of that line alone.
-fn keeps_any(mut classes: impl Iterator<Item = (u8, u64)>, line: &Line) -> bool {
-    let sheet = Sheet::from_lines([*line]);
-    sheet.is_ok_and(|sheet| classes.any(|(class, _)| class_kept(&sheet, class)))
-}
-
-fn warning(plan: &Plan<'_>, index: usize, line: &Line) -> Warning {
+/// The warning for a line, with words for what it holds and does not release.
+fn warning(plan: &Plan<'_>, index: usize, line: &Line, but: &str) -> Warning {
     let place = plan.keep_sheet.place(index);
-    let but = match keeps_any(plan.withheld(), line) {
-        true => " but withheld points",
-        false => "",
-    };
     let why = why(line).unwrap_or_default();
     let words = format!("{place}: matches nothing in this file{but}: {line}{why}");
     Warning::new("line_matches_nothing", words, about(plan, index, line))
