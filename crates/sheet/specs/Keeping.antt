@@ -34,6 +34,7 @@ namesRecord l user id = eqb (kind l) 2 && (same (userID l) user && eqb (recordID
 unfoldable pub inRange : ℤ → ℤ → ℤ → Bool
 inRange from to z = leZ from z && leZ z to
 
+-- whether a line is a box
 unfoldable pub isBox : Bytes → Bool
 isBox l = eqb (kind l) 3
 
@@ -47,10 +48,11 @@ containsPoint l p = isBox l && inBox l p
 unfoldable pub keepsClass : Bytes → ℕ → Bool
 keepsClass sheet c = anyOf (λ l. containsClass l c) (lines sheet)
 
+-- whether any box stands on a sheet
 unfoldable pub hasBox : Bytes → Bool
 hasBox sheet = anyOf isBox (lines sheet)
 
--- where any box stands, a point lies in one of them
+-- a point by its bytes: where any box stands, it lies in one of them
 unfoldable pub keepsPlace : Bytes → Bytes → Bool
 keepsPlace sheet p = not (hasBox sheet) || anyOf (λ l. containsPoint l p) (lines sheet)
 
