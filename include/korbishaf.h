@@ -30,6 +30,19 @@
  *   all of them if there is none, without the spaces (0x20) at their end. A text
  *   of spaces is empty. Texts have no zero byte behind them here.
  *
+ * A keep sheet has up to 64 lines, back to back. Each is the mark 4B 53, a kind
+ * and a body; numbers in it have their lowest byte first:
+ *
+ *   kind 1  the lowest and the highest class, 1 byte each
+ *   kind 2  a user ID, 16 bytes, and a record ID, 2
+ *   kind 3  a box: low X, high X, low Y, high Y, low Z, high Z, stored values as
+ *           those of las_point, 4 bytes each, two's complement
+ *
+ * A point is kept if a line of kind 1 contains its class, it is not withheld and,
+ * where there are lines of kind 3, it lies in one of these boxes, edges included.
+ * So boxes without a line of kind 1 keep no point. A record is kept if a line of
+ * kind 2 has its user ID and record ID, whatever boxes there are.
+ *
  * Numbers:
  *
  *    0  done
@@ -55,9 +68,10 @@
  *       size, or a record there would run past the point offset
  *       The keep sheet, line by line:
  *   20  a line does not start with the mark 4B 53
- *   21  a line's kind is neither 1 nor 2
+ *   21  a line's kind is not 1, 2 or 3
  *   22  a line is cut: fewer than 3 bytes are left, or its body is not whole
- *   23  the lowest class of a line is above its highest
+ *   23  the lowest class of a line is above its highest, or a low value of its box
+ *       above the high one of that axis
  *   24  a 65th line begins
  *       The release and the cutting list:
  *   30  the output is shorter than the released file (after 31)
@@ -211,7 +225,7 @@ typedef struct {
 
 /* The number of the last change request that is in: 0 for the base, 1 with las_mend, 2 where a text's cut has no spaces
  * at its end, 3 where a class has no flags in it and withheld points are never released, 4 with las_class_test, 5 with
- * las_cutting_list and las_release_by_list, 6 with las_geokey_halve. */
+ * las_cutting_list and las_release_by_list, 6 with las_geokey_halve, 7 where a sheet may have boxes. */
 uint64_t las_level(void);
 
 /* 0 if the file passes, otherwise 1 to 10. */
@@ -245,12 +259,13 @@ uint64_t las_encode(uint8_t format, uint16_t record_length, las_point point, uin
 uint64_t las_coordinate(int32_t stored, uint64_t scale, uint64_t offset);
 
 /* Whether a line of the sheet contains that class, from 0 to 255. It is a class by itself, with no flags in it: the
- * points of formats 0 to 3 have classes from 0 to 31, so that a line above 31 keeps none of them. Numbers: 20 to 24. */
+ * points of formats 0 to 3 have classes from 0 to 31, so that a line above 31 keeps none of them. Nor has it a place:
+ * boxes are not looked at. Numbers: 20 to 24. */
 las_kept las_class_kept(const uint8_t *sheet, uint64_t sheet_length, uint8_t classification);
 
 /* The same question, and the number of lines that were looked at for it: the test leaves at the first line that holds
- * the class, so that where `kept` is 1, line `lines` of the sheet answered, counted from 1. A line for records counts
- * as any other, and never holds a class. The whole sheet is checked first. Numbers: 20 to 24. */
+ * the class, so that where `kept` is 1, line `lines` of the sheet answered, counted from 1. A line for records and a
+ * box count as any other, and never hold a class. The whole sheet is checked first. Numbers: 20 to 24. */
 las_class_line las_class_test(const uint8_t *sheet, uint64_t sheet_length, uint8_t classification);
 
 /* Whether the sheet keeps records of that user ID and record ID. The user ID has any number of bytes, and is cut as any
@@ -269,9 +284,10 @@ las_geokey_read las_geokey_halve(const uint8_t *file, uint64_t file_length, uint
 
 /* Writes what the sheet keeps of the file to `out`, which overlaps no other argument, as a file of its own, and
  * zeros behind it. A line for class 2 keeps synthetic points and key points of class 2 too (a ground key point has the
- * classification byte 66); withheld points never go out, whatever the sheet says. Of a text field it has the cut, and
- * zeros behind that. An output as long as the file is never too short; an empty one asks for the needed length, by 30.
- * Numbers: 1 to 10, 20 to 24, 30. */
+ * classification byte 66); withheld points never go out, whatever the sheet says. Where the sheet has boxes, a point
+ * that lies in none of them stays behind, whatever its class is; counts and bounds are of those that go out. Of a text
+ * field the output has the cut, and zeros behind that. An output as long as the file is never too short; an empty one
+ * asks for the needed length, by 30. Numbers: 1 to 10, 20 to 24, 30. */
 las_released las_release(const uint8_t *file, uint64_t file_length, const uint8_t *sheet, uint64_t sheet_length,
                          uint8_t *out, uint64_t out_length);
 

@@ -15,12 +15,9 @@ use fields::slices;
 use points::raw;
 use tally::Tally;
 
-// How many records are looked at before the kept ones among them are copied: so many stay in the first-level cache.
-const BLOCK: usize = 64;
-
 // Writes the records at the first k of the chosen places of a block to the front of `out`, one behind the other.
 fn copy_chosen(block: &[u8], record_length: usize, chosen: &[usize], k: usize, out: &mut [u8])
-    requires { ⌜ (k ≤ 64)
+    requires { ⌜ (k ≤ 96)
         × (k ≤ length (now chosen))
         × Places «record_length» (now block) (take k (now chosen))
         × (k * «record_length» ≤ length (now out)) ⌝ }
@@ -51,7 +48,7 @@ fn copy_block(
     chosen: &mut [usize],
     out: &mut [u8],
 ) -> usize
-    requires { ⌜ (n ≤ 64)
+    requires { ⌜ (n ≤ 96)
         × (n ≤ length (now chosen))
         × (n * «record_length» ≤ length (now block))
         × (length (keptOf (keepsBy (now table) (now boxes) format)
@@ -98,13 +95,13 @@ fn copy_run(
         (join (keptOf (keepsBy (now (table .entry)) (now (boxes .entry)) format)
         count «record_length» (now (run .entry))))) ⌝ }
 {
-    let mut chosen = [0usize; BLOCK];
+    let mut chosen = [0usize; kept_points::BLOCK];
     let mut t = tally::fresh();
     let mut at = 0;
     let mut to = 0;
     let mut left = count;
     while 0 < left {
-        let n = numbers::least(left, BLOCK);
+        let n = numbers::least(left, kept_points::BLOCK);
         let next = at + n * record_length;
         let k = copy_block(
             &run[at..next],

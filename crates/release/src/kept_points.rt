@@ -8,9 +8,13 @@ ghost use Rattle.fields.specs.Lists.{kept};
 ghost use Rattle.sheet.specs.Keeping.{inTable};
 ghost use Rattle.sheet.specs.Boxes.{inBoxes, keepsBy};
 ghost use Rattle.release.specs.KeptPoints.{keptPoints, keptOf, picked, Places};
+use fields::numbers;
 use points::raw;
 use sheet::boxes;
 use sheet::class_table;
+
+// How many records are looked at before the kept ones among them are copied: so many stay in the first-level cache.
+pub(crate) const BLOCK: usize = 96;
 
 // What a point or a record counts. The compiler makes no branch of it.
 pub(crate) fn one_if(keep: bool) -> usize
@@ -30,7 +34,7 @@ fn choose_by_table(
     chosen: &mut [usize],
 ) -> usize
     requires { ⌜
-        (n ≤ 64) × (n ≤ length (now chosen)) × (n * «record_length» ≤ length (now block)) ⌝ }
+        (n ≤ 96) × (n ≤ length (now chosen)) × (n * «record_length» ≤ length (now block)) ⌝ }
     ensures { λ r. ⌜ (r ≤ n)
         × (picked «record_length» (now (block .entry)) (take r (now (chosen .exit)))
         ≡ keptOf (inTable (now (table .entry)) format) n «record_length» (now (block .entry)))
@@ -58,7 +62,7 @@ fn choose_in_boxes(
     k: usize,
     chosen: &mut [usize],
 ) -> usize
-    requires { ⌜ (k ≤ 64)
+    requires { ⌜ (k ≤ 96)
         × (k ≤ length (now chosen))
         × Places «record_length» (now block) (take k (now chosen)) ⌝ }
     ensures { λ r. ⌜ (r ≤ k)
@@ -81,6 +85,28 @@ fn choose_in_boxes(
 
 // Puts the places of the kept records among the first n of a block into `chosen`, in order, and says how many they are.
 // Boxes are asked only of the records that the table keeps.
+fn choose_by_both(
+    block: &[u8],
+    format: u8,
+    record_length: usize,
+    n: usize,
+    table: &[bool; 256],
+    boxes: &[i32; 385],
+    chosen: &mut [usize],
+) -> usize
+    requires { ⌜
+        (n ≤ 96) × (n ≤ length (now chosen)) × (n * «record_length» ≤ length (now block)) ⌝ }
+    ensures { λ r. ⌜ (r ≤ n)
+        × (picked «record_length» (now (block .entry)) (take r (now (chosen .exit)))
+        ≡ keptOf (keepsBy (now (table .entry)) (now (boxes .entry)) format) n «record_length»
+        (now (block .entry)))
+        × Places «record_length» (now (block .entry)) (take r (now (chosen .exit))) ⌝ }
+{
+    let k = choose_by_table(block, format, record_length, n, table, chosen);
+    choose_in_boxes(block, record_length, boxes, k, chosen)
+}
+
+// The same. Where there is no box, none is asked.
 pub(crate) fn choose(
     block: &[u8],
     format: u8,
@@ -91,22 +117,45 @@ pub(crate) fn choose(
     chosen: &mut [usize],
 ) -> usize
     requires { ⌜
-        (n ≤ 64) × (n ≤ length (now chosen)) × (n * «record_length» ≤ length (now block)) ⌝ }
+        (n ≤ 96) × (n ≤ length (now chosen)) × (n * «record_length» ≤ length (now block)) ⌝ }
     ensures { λ r. ⌜ (r ≤ n)
         × (picked «record_length» (now (block .entry)) (take r (now (chosen .exit)))
         ≡ keptOf (keepsBy (now (table .entry)) (now (boxes .entry)) format) n «record_length»
         (now (block .entry)))
         × Places «record_length» (now (block .entry)) (take r (now (chosen .exit))) ⌝ }
 {
-    let k = choose_by_table(block, format, record_length, n, table, chosen);
     if boxes::no_box(boxes) {
-        return k;
+        return choose_by_table(block, format, record_length, n, table, chosen);
     }
-    choose_in_boxes(block, record_length, boxes, k, chosen)
+    choose_by_both(block, format, record_length, n, table, boxes, chosen)
 }
 
-// Counts the kept points of a run that holds them all.
+// Counts the points that the table keeps of a run that holds them all.
 fn count_run(
+    run: &[u8],
+    format: u8,
+    record_length: usize,
+    count: usize,
+    table: &[bool; 256],
+) -> usize
+    requires { ⌜ count * «record_length» ≤ length (now run) ⌝ }
+    ensures { λ r. ⌜
+        r ≡ length (keptOf (inTable (now (table .entry)) format) count «record_length» (now (run .entry))) ⌝ }
+{
+    let mut at = 0;
+    let mut n = 0;
+    let mut left = count;
+    while 0 < left {
+        let next = at + record_length;
+        n += one_if(class_table::in_table(table, format, &run[at..next]));
+        at = next;
+        left -= 1;
+    }
+    n
+}
+
+// Counts the points that table and boxes keep of a run that holds them all, block by block.
+fn count_blocks(
     run: &[u8],
     format: u8,
     record_length: usize,
@@ -119,16 +168,46 @@ fn count_run(
         ≡ length (keptOf (keepsBy (now (table .entry)) (now (boxes .entry)) format) count «record_length»
         (now (run .entry))) ⌝ }
 {
+    let mut chosen = [0usize; BLOCK];
     let mut at = 0;
     let mut n = 0;
     let mut left = count;
     while 0 < left {
-        let next = at + record_length;
-        n += one_if(boxes::keeps_by(table, boxes, format, &run[at..next]));
+        let m = numbers::least(left, BLOCK);
+        let next = at + m * record_length;
+        n += choose_by_both(
+            &run[at..next],
+            format,
+            record_length,
+            m,
+            table,
+            boxes,
+            &mut chosen,
+        );
         at = next;
-        left -= 1;
+        left -= m;
     }
     n
+}
+
+// Counts the kept points of a run that holds them all. Where there is no box, none is asked.
+fn count_held(
+    run: &[u8],
+    format: u8,
+    record_length: usize,
+    count: usize,
+    table: &[bool; 256],
+    boxes: &[i32; 385],
+) -> usize
+    requires { ⌜ count * «record_length» ≤ length (now run) ⌝ }
+    ensures { λ r. ⌜ r
+        ≡ length (keptOf (keepsBy (now (table .entry)) (now (boxes .entry)) format) count «record_length»
+        (now (run .entry))) ⌝ }
+{
+    if boxes::no_box(boxes) {
+        return count_run(run, format, record_length, count, table);
+    }
+    count_blocks(run, format, record_length, count, table, boxes)
 }
 
 // How many of the first `count` records of `run`, `record_length` bytes each, table and boxes keep; none where the run
@@ -146,7 +225,7 @@ pub(crate) fn count_points(
         (now (run .entry))) ⌝ }
 {
     if raw::holds(run.len(), record_length, count) {
-        count_run(run, format, record_length, count, table, boxes)
+        count_held(run, format, record_length, count, table, boxes)
     } else {
         0
     }

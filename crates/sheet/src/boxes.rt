@@ -1,12 +1,13 @@
 // The boxes of a keep sheet as numbers, read once for a release, and whether a point lies in one of them.
 // These are 385 numbers: 64 low X, 64 high X, 64 low Y, 64 high Y, 64 low Z and 64 high Z, those of box j at place j of
-// each 64, so that one number of several boxes is read at once; and last how many boxes there are.
+// each 64, so that one number of several boxes is read at once; and last how many boxes there are. Highs are put down
+// turned, -1 - z, so that all six tests of a box are of one kind: its number is at most that of the point.
 ghost use mathlib.Core.Path.{_≡_};
 ghost use Prim.Native.Nat.{_≤_, _<_};
 ghost use lib.Dec.{eqb};
 ghost use lib.ListN.{length};
-ghost use Rattle.sheet.specs.Keeping.{inRange, isBox};
-ghost use Rattle.sheet.specs.Boxes.{BoxesOf, PutBox, TakesLine, boxCount, inAxis, InBox, InFirst, inBoxes, keepsBy};
+ghost use Rattle.sheet.specs.Keeping.{isBox};
+ghost use Rattle.sheet.specs.Boxes.{turned, bound, BoxesOf, PutBox, TakesLine, boxCount, inAxis, InBox, InFirst, inBoxes, keepsBy};
 use crate::class_table;
 use points::raw;
 
@@ -19,6 +20,21 @@ fn is_box(line: &[u8]) -> bool
     fields::numbers::u8_at(line, crate::KIND) == crate::BOX
 }
 
+fn turned(z: i32) -> i32
+    ensures { λ r. ⌜ r ≡ turned z ⌝ }
+{
+    -1 - z
+}
+
+// Number i of a box as it is put down.
+fn bound(line: &[u8], i: usize) -> i32
+    requires { ⌜ i < 6 ⌝ }
+    ensures { λ r. ⌜ r ≡ bound i (now (line .entry)) ⌝ }
+{
+    let number = crate::edge(line, i);
+    if i % 2 == 0 { number } else { turned(number) }
+}
+
 // Puts the six numbers of a box behind those of n boxes.
 fn put_box(line: &[u8], n: usize, boxes: &mut [i32])
     requires { ⌜ (n < 64) × (length (now boxes) ≡ 385) ⌝ }
@@ -26,7 +42,7 @@ fn put_box(line: &[u8], n: usize, boxes: &mut [i32])
 {
     let mut i = 0;
     while i < 6 {
-        let number = crate::edge(line, i);
+        let number = bound(line, i);
         boxes[64 * i + n] = number;
         i += 1;
     }
@@ -81,20 +97,14 @@ pub fn no_box(boxes: &[i32; 385]) -> bool
     count(boxes) == 0
 }
 
-fn in_range(from: i32, to: i32, z: i32) -> bool
-    ensures { λ r. ⌜ r ≡ inRange from to z ⌝ }
-{
-    (from <= z) & (z <= to)
-}
-
 // Whether a stored value lies in box j on an axis.
 fn in_axis(boxes: &[i32; 385], axis: usize, j: usize, z: i32) -> bool
     requires { ⌜ (axis < 3) × (j < 64) ⌝ }
     ensures { λ r. ⌜ r ≡ inAxis (now (boxes .entry)) j axis z ⌝ }
 {
-    let from = boxes[64 * (2 * axis) + j];
-    let to = boxes[64 * (2 * axis + 1) + j];
-    in_range(from, to, z)
+    let low = boxes[64 * (2 * axis) + j];
+    let high = boxes[64 * (2 * axis + 1) + j];
+    (low <= z) & (high <= turned(z))
 }
 
 // Whether stored values lie in box j.

@@ -8,26 +8,21 @@ use native.Mathlib.Nat.{add-mul}
 use mathlib.Core.Bool.{Bool}
 use mathlib.Core.List.{List, [], _++_, append-assoc}
 use lib.ListN.{length, take, drop, length-append, length-drop}
-use lib.Seq.{sets, length-sets, length-take-le, drop-drop, sets-eq, drop-at}
+use lib.Seq.{sets, length-sets, length-take-le, sets-eq, drop-at}
 use Rattle.fields.specs.Lists.{All, kept}
 use Rattle.fields.specs.Bytes.{Bytes, part, pieces, join}
-use Rattle.fields.proofs.ByteLaws.{length-part, length-pieces, pieces-width, length-join-pieces, pieces-back, join-append, join-pieces, pieces-part, pieces-split}
-use Rattle.fields.proofs.ListLaws.{length-kept, kept-whole, kept-append, All-kept}
+use Rattle.fields.proofs.ByteLaws.{length-part, length-pieces, pieces-width, length-join-pieces, pieces-back, join-append, join-pieces}
+use Rattle.fields.proofs.ListLaws.{length-kept, kept-whole, All-kept}
 use Rattle.fields.proofs.StoreLaws.{sets-append}
 use Rattle.points.specs.Raw.{pointsOf}
 use Rattle.points.proofs.raw.RunLaws.{points-held}
 use Rattle.tally.specs.declared.Tally.{Tally}
 use Rattle.tally.specs.Tally.{noTally, tallyOf, tallyMore}
 use Rattle.tally.proofs.CountLaws.{more-of}
-use Rattle.release.specs.KeptPoints.{picked}
-use Rattle.release.proofs.kept_points.PickedLaws.{length-picked}
+use Rattle.release.proofs.kept_points.LoopLaws as loop
 use Rattle.release.proofs.kept_points.LoopLaws.{Looked, begun, done-all}
 
 -- ---- a block
-
--- as many were chosen as are kept
-pub chosen-count : (w : ℕ) (run : Bytes) (chosen : List ℕ) (k : ℕ) (ks : List Bytes) → k ≤ length chosen → picked w run (take k chosen) ≡ ks → k ≡ length ks
-chosen-count w run chosen k ks h e = rw (← e, length-picked, length-take-le k chosen h)
 
 -- a block of which all are kept is one run
 pub whole-block : (p : Bytes → Bool) (n w : ℕ) (s : Bytes) → n ≡ length (kept p (pieces n w s)) → take (n * w) s ≡ join (kept p (pieces n w s))
@@ -53,32 +48,20 @@ module _ (keep : Bytes → Bool) (f w count : ℕ) (run out₀ : Bytes) (space :
 
   module _ (out : Bytes) (left at to : ℕ) (t : Tally) (c : Blocked keep f w count run out₀ out left at to t) (n : ℕ) (few : n ≤ left) where
     abbrev block : Bytes
-    block = part at (n * w) run
+    block = loop.block keep w count run (c .done) left at (c .looked) n few
 
     -- the kept records of the block, and those behind it
     abbrev pub ks : List Bytes
-    ks = kept keep (pieces n w block)
+    ks = loop.ks keep w count run (c .done) left at (c .looked) n few
 
     abbrev later : List Bytes
-    later = kept keep (pieces (left - n) w (drop (at + n * w) run))
-
-    split-left : n + (left - n) ≡ left
-    split-left = omega arith
-
-    products : left * w ≡ n * w + (left - n) * w
-    products = let e : (n + (left - n)) * w ≡ n * w + (left - n) * w = add-mul n (left - n) w in rw split-left at e
+    later = loop.later keep w count run (c .done) left at (c .looked) n few
 
     pub block-in : at + n * w ≤ length run
-    block-in = omega (arith, c .looked .within, products)
-
-    parts : kept keep (pieces left w (drop at run)) ≡ ks ++ later
-    parts =
-        let e : pieces (n + (left - n)) w (drop at run) ≡ pieces n w (drop at run) ++ pieces (left - n) w (drop (n * w) (drop at run)) = pieces-split n (left - n) w (drop at run) in
-        let g : pieces left w (drop at run) ≡ pieces n w (drop at run) ++ pieces (left - n) w (drop (at + n * w) run) = rw (split-left, drop-drop (n * w) at run) at e in
-        rw (g, kept-append, pieces-part n w at run)
+    block-in = loop.block-in keep w count run (c .done) left at (c .looked) n few
 
     whole : c .done ++ (ks ++ later) ≡ kept keep (pieces count w run)
-    whole = rw parts at (c .looked .all)
+    whole = loop.whole keep w count run (c .done) left at (c .looked) n few
 
     wholes : length (c .done) + (length ks + length later) ≡ length (kept keep (pieces count w run))
     wholes = rw (← whole, length-append, length-append)
@@ -129,7 +112,7 @@ module _ (keep : Bytes → Bool) (f w count : ℕ) (run out₀ : Bytes) (space :
           let zeroth : 0 + to ≡ to = omega arith in
           record {
             done = c .done ++ ks;
-            looked = record { within = omega (arith, c .looked .within, products); all = rw append-assoc whole };
+            looked = loop.next-block keep w count run (c .done) left at (c .looked) n few;
             place = rw (length-append, add-mul, c .place, number);
             long = rw (join-append, length-append, long-block, c .long, number);
             same = same-room;

@@ -3,13 +3,15 @@
 use mathlib.Core.Path.{_≡_, refl, sym, ap, _∙_}
 use Prim.Native.Nat.{ℕ, zero, suc, _+_, _-_, _*_, _≤_, _<_}
 use native.Mathlib.Omega.{arith}
+use native.Mathlib.Nat.{add-mul}
 use mathlib.Core.Bool.{Bool, true, false, cond}
 use mathlib.Core.List.{List, [], _∷_, _++_, append-nil, append-assoc}
 use lib.ListN.{length, take, drop, set, length-append}
+use lib.Seq.{drop-drop}
 use Rattle.fields.specs.Lists.{kept, consIf}
 use Rattle.fields.specs.Bytes.{Bytes, part, pieces}
-use Rattle.fields.proofs.ByteLaws.{pieces-step}
-use Rattle.fields.proofs.ListLaws.{consIf-append}
+use Rattle.fields.proofs.ByteLaws.{pieces-step, length-pieces, pieces-part, pieces-split}
+use Rattle.fields.proofs.ListLaws.{consIf-append, kept-append, length-kept}
 use Rattle.points.proofs.raw.RunLaws.{mul-step}
 
 -- the record at hand, as it is lent
@@ -63,6 +65,39 @@ module _ (keep : Bytes → Bool) (w count : ℕ) (run : Bytes) where
           all = rw (append-assoc, consIf-append, e) (rw (pieces-step left w at run more) at (l .all));
         }
 
+  -- n records more are looked at, as a block
+  module _ (done : List Bytes) (left at : ℕ) (l : Looked keep w count run done left at) (n : ℕ) (few : n ≤ left) where
+    abbrev pub block : Bytes
+    block = part at (n * w) run
+
+    -- the kept records of the block, and those behind it
+    abbrev pub ks : List Bytes
+    ks = kept keep (pieces n w block)
+
+    abbrev pub later : List Bytes
+    later = kept keep (pieces (left - n) w (drop (at + n * w) run))
+
+    split-left : n + (left - n) ≡ left
+    split-left = omega arith
+
+    products : left * w ≡ n * w + (left - n) * w
+    products = let e : (n + (left - n)) * w ≡ n * w + (left - n) * w = add-mul n (left - n) w in rw split-left at e
+
+    pub block-in : at + n * w ≤ length run
+    block-in = omega (arith, l .within, products)
+
+    parts : kept keep (pieces left w (drop at run)) ≡ ks ++ later
+    parts =
+        let e : pieces (n + (left - n)) w (drop at run) ≡ pieces n w (drop at run) ++ pieces (left - n) w (drop (n * w) (drop at run)) = pieces-split n (left - n) w (drop at run) in
+        let g : pieces left w (drop at run) ≡ pieces n w (drop at run) ++ pieces (left - n) w (drop (at + n * w) run) = rw (split-left, drop-drop (n * w) at run) at e in
+        rw (g, kept-append, pieces-part n w at run)
+
+    pub whole : done ++ (ks ++ later) ≡ kept keep (pieces count w run)
+    whole = rw parts at (l .all)
+
+    pub next-block : Looked keep w count run (done ++ ks) (left - n) (at + n * w)
+    next-block = record { within = omega (arith, l .within, products); all = rw append-assoc whole }
+
 -- ---- counting
 
 length-one : (b : Bool) (p : Bytes) → length (consIf b p []) ≡ cond b 1 0
@@ -93,3 +128,15 @@ module _ (keep : Bytes → Bool) (w count : ℕ) (run : Bytes) where
   pub count-ended : (left at n : ℕ) → left ≤ 0 → Counted keep w count run left at n → n ≡ length (kept keep (pieces count w run))
   count-ended zero at n h c = c .number ∙ ap length (done-all keep w count run (c .done) at (c .looked))
   count-ended (suc left) at n h c = absurd (omega arith)
+
+  -- a block of n records more
+  pub count-block : (left at n : ℕ) (c : Counted keep w count run left at n) (m : ℕ) → m ≤ left → (k : ℕ)
+      → k ≡ length (kept keep (pieces m w (part at (m * w) run))) → Counted keep w count run (left - m) (at + m * w) (n + k)
+  count-block left at n c m few k e =
+      let own = kept keep (pieces m w (part at (m * w) run)) in
+      record {
+        done = c .done ++ own;
+        looked = next-block keep w count run (c .done) left at (c .looked) m few;
+        number = rw (c .number, e, length-append);
+        few = omega (arith, c .few, e, length-kept keep (pieces m w (part at (m * w) run)), length-pieces m w (part at (m * w) run));
+      }

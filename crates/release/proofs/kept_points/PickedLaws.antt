@@ -6,6 +6,7 @@ use native.Mathlib.Omega.{arith}
 use mathlib.Core.Bool.{Bool, true, false}
 use mathlib.Core.List.{List, [], _∷_, _++_}
 use lib.ListN.{length, take, getD}
+use lib.Seq.{length-take-le}
 use Rattle.fields.specs.Lists.{consIf}
 use Rattle.fields.specs.Bytes.{Bytes, part}
 use Rattle.release.specs.KeptPoints.{picked, Places}
@@ -31,3 +32,7 @@ place-at w run zero j l h less places = absurd (omega arith)
 place-at w run (suc k) j [] h less places = absurd (omega arith)
 place-at w run (suc k) zero (x ∷ xs) h less places = places .0
 place-at w run (suc k) (suc j) (x ∷ xs) h less places = place-at w run k j xs (omega arith) (omega arith) (places .1)
+
+-- as many were chosen as are kept
+pub chosen-count : (w : ℕ) (run : Bytes) (chosen : List ℕ) (k : ℕ) (ks : List Bytes) → k ≤ length chosen → picked w run (take k chosen) ≡ ks → k ≡ length ks
+chosen-count w run chosen k ks h e = rw (← e, length-picked, length-take-le k chosen h)

@@ -2,22 +2,23 @@
 -- keeps its place.
 -- Assumes nothing.
 use mathlib.Core.Path.{_≡_, refl, sym, ap, _∙_}
-use Prim.Native.Nat.{ℕ, zero, suc, _≤_, _<_}
+use Prim.Native.Nat.{ℕ, zero, suc, _+_, _*_, _≤_, _<_}
 use native.Mathlib.Omega.{arith}
 use borrow.Author.Tests.{ltb-false}
 use mathlib.Core.Bool.{Bool, true, false, cond, not, _&&_}
-use mathlib.Core.List.{List, []}
+use mathlib.Core.List.{List, [], _∷_, map}
 use lib.ListN.{length, getD, take}
 use lib.Seq.{take-all}
 use lib.Dec.{ltb, eqb}
-use lib.IntN.{ℤ}
+use lib.IntN.{ℤ, pos, negsuc}
+use lib.Signed.{leZ}
 use Rattle.fields.specs.Lists.{anyOf}
 use Rattle.fields.specs.Bytes.{Bytes, AllBytes}
 use Rattle.fields.proofs.ListLaws.{length-kept, some-kept, some-counted, some-take}
 use Rattle.points.specs.Raw.{stored}
-use Rattle.sheet.specs.Sheet.{low, high, onEveryAxis, lines}
-use Rattle.sheet.specs.Keeping.{isBox, inBox, containsPoint, hasBox, keepsPlace, keepsPoint, TableOf, inTable}
-use Rattle.sheet.specs.Boxes.{boxLines, Numbered, BoxesOf, upTo64, boxCount, inAxis, inBoxAt, inFirst, inBoxes, keepsBy}
+use Rattle.sheet.specs.Sheet.{edge, low, high, onEveryAxis, lines}
+use Rattle.sheet.specs.Keeping.{inRange, isBox, inBox, containsPoint, hasBox, keepsPlace, keepsPoint, TableOf, inTable}
+use Rattle.sheet.specs.Boxes.{boxLines, turned, bound, Numbered, BoxesOf, upTo64, boxCount, inAxis, inBoxAt, inFirst, inBoxes, keepsBy}
 use Rattle.sheet.proofs.LineLaws.{at-most-64}
 use Rattle.sheet.proofs.class_table.ClassLaws.{table-keeps}
 
@@ -37,25 +38,47 @@ count-is sheet ns h = rw (h .1) (few (length (boxLines sheet)) (ltb (length (box
 
 -- ---- a point in them
 
-in-numbered : (bs : List Bytes) (ns : List ℤ) → Numbered bs ns → (j : ℕ) → j < 64 → (p : Bytes)
-    → inBoxAt ns j (λ axis. stored axis p) ≡ inBox (getD bs j []) p
-unfolding inBoxAt inAxis inBox onEveryAxis low high
-in-numbered bs ns h j less p =
-    rw (
-      h 0 j (omega arith) less,
-      h 1 j (omega arith) less,
-      h 2 j (omega arith) less,
-      h 3 j (omega arith) less,
-      h 4 j (omega arith) less,
-      h 5 j (omega arith) less,
-    )
+-- a high that is turned is at most a point's number exactly if the point's is at most the high
+turned-le : (a b : ℤ) → leZ (turned a) (turned b) ≡ leZ b a
+unfolding turned
+turned-le (pos a) (pos b) = refl
+turned-le (pos a) (negsuc b) = refl
+turned-le (negsuc a) (pos b) = refl
+turned-le (negsuc a) (negsuc b) = refl
+
+of-line : (f : Bytes → ℤ) (bs : List Bytes) (j : ℕ) → j < length bs → getD (map f bs) j (pos 0) ≡ f (getD bs j [])
+of-line f [] j h = absurd (omega arith)
+of-line f (b ∷ bs) zero h = refl
+of-line f (b ∷ bs) (suc j) h = of-line f bs j (omega arith)
+
+module _ (bs : List Bytes) (ns : List ℤ) (h : Numbered bs ns) (j : ℕ) (less : j < length bs) (most : j < 64) where
+  abbrev line : Bytes
+  line = getD bs j []
+
+  number : (i : ℕ) → i < 6 → getD ns (64 * i + j) (pos 0) ≡ bound i line
+  number i k = h i j k most ∙ of-line (bound i) bs j less
+
+  in-numbered : (p : Bytes) → inBoxAt ns j (λ axis. stored axis p) ≡ inBox line p
+  unfolding inBoxAt inAxis inBox inRange onEveryAxis low high bound
+  in-numbered p =
+      rw (
+        number 0 (omega arith),
+        number 1 (omega arith),
+        number 2 (omega arith),
+        number 3 (omega arith),
+        number 4 (omega arith),
+        number 5 (omega arith),
+        turned-le (edge 1 line) (stored 0 p),
+        turned-le (edge 3 line) (stored 1 p),
+        turned-le (edge 5 line) (stored 2 p),
+      )
 
 in-first : (bs : List Bytes) (ns : List ℤ) → Numbered bs ns → length bs ≤ 64 → (n : ℕ) → n ≤ length bs → (p : Bytes)
     → inFirst ns n (λ axis. stored axis p) ≡ anyOf (λ l. inBox l p) (take n bs)
 unfolding inFirst anyOf
 in-first bs ns h most zero le p = refl
 in-first bs ns h most (suc n) le p =
-    rw (in-first bs ns h most n (omega arith) p, in-numbered bs ns h n (omega arith) p)
+    rw (in-first bs ns h most n (omega arith) p, in-numbered bs ns h n (omega arith) (omega arith) p)
     (sym (some-take (λ l. inBox l p) n bs [] (omega arith)))
 
 -- where there are some, some line is one

@@ -10,7 +10,8 @@ use Rattle.fields.specs.Bytes.{Bytes, join}
 use Rattle.fields.proofs.StoreLaws.{stored-whole}
 use Rattle.sheet.specs.Boxes.{keepsBy}
 use Rattle.release.specs.KeptPoints.{keptOf}
-use Rattle.release.proofs.copier.BlockLaws.{chosen-count, whole-block}
+use Rattle.release.proofs.kept_points.PickedLaws.{chosen-count}
+use Rattle.release.proofs.copier.BlockLaws.{whole-block}
 use borrow.Author.Needs.{needs}
 use Rattle.release.proofs.copier.copy_block.Statement.{statement}
 use Rattle.release.proofs.copier.copy_block.Tie as tie

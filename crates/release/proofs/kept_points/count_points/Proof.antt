@@ -12,13 +12,13 @@ use Rattle.release.proofs.kept_points.count_points.Tie as tie
 held : (c : tie.Then1) → let a = c .before .before .before .args in InRun (a .count) (a .record-length) (length (now (a .run)))
 held c = in-run _ _ _ (sym (c .before .holds .ensures) ∙ c .if1 .taken)
 
-count-run-requires : tie.Need-count-run-requires
-count-run-requires c κs = held c .within
+count-held-requires : tie.Need-count-held-requires
+count-held-requires c κs = held c .within
 
 returns : tie.Need-returns
 returns c =
     let a = c .before .before .before .before .args in
-    rw (kept-held (keepsBy (now (a .table)) (now (a .boxes)) (a .format)) (a .count) (a .record-length) (now (a .run)) (held (c .before))) (c .count-run .ensures)
+    rw (kept-held (keepsBy (now (a .table)) (now (a .boxes)) (a .format)) (a .count) (a .record-length) (now (a .run)) (held (c .before))) (c .count-held .ensures)
 
 returns-2 : tie.Need-returns-2
 returns-2 c =
@@ -26,4 +26,4 @@ returns-2 c =
     sym (ap length (kept-none (keepsBy (now (a .table)) (now (a .boxes)) (a .format)) (a .count) (a .record-length) (now (a .run)) (sym (c .before .holds .ensures) ∙ c .if1 .left)))
 
 pub count-points-spec : {M : Type 1} → statement M
-count-points-spec = tie.close (tie.spec (λ c κs. tt) count-run-requires returns returns-2)
+count-points-spec = tie.close (tie.spec (λ c κs. tt) count-held-requires returns returns-2)

@@ -5,16 +5,16 @@ use native.Mathlib.Omega.{arith}
 use borrow.Author.Needs.{needs}
 use denote.Ref.{now}
 use lib.ListN.{length, take, drop}
-use Rattle.sheet.specs.Boxes.{keepsBy}
+use Rattle.sheet.specs.Keeping.{inTable}
 use Rattle.release.proofs.kept_points.LoopLaws.{Counted, lent-record, ends, count-begun, count-next, count-ended}
 use Rattle.release.proofs.kept_points.count_run.Statement.{statement}
 use Rattle.release.proofs.kept_points.count_run.Tie as tie
 
 abbrev Inv-loop : tie.InvT-loop
-Inv-loop run format record-length count table boxes at₀ n₀ left₀ at n left = Counted (keepsBy table boxes format) record-length count run left at n
+Inv-loop run format record-length count table at₀ n₀ left₀ at n left = Counted (inTable table format) record-length count run left at n
 
 abbrev μ-loop : tie.MeasureT-loop
-μ-loop run format record-length count table boxes at₀ n₀ left₀ at n left = left
+μ-loop run format record-length count table at₀ n₀ left₀ at n left = left
 
 loop-holds : tie.Need-loop-holds Inv-loop μ-loop
 loop-holds c = count-begun _ _ _ _ (c .before .pre)
@@ -26,14 +26,14 @@ inside c = omega (arith, ends _ _ _ _ _ (c .before .loop .left) (c .before .loop
 add-next : tie.Need-add-next Inv-loop μ-loop
 add-next c = omega (arith, inside c)
 
-sub-keeps-by : tie.Need-sub-keeps-by Inv-loop μ-loop
-sub-keeps-by c = search needs
+sub-in-table : tie.Need-sub-in-table Inv-loop μ-loop
+sub-in-table c = search needs
 
-part-keeps-by-start : tie.Need-part-keeps-by-start Inv-loop μ-loop
-part-keeps-by-start c = search needs
+part-in-table-start : tie.Need-part-in-table-start Inv-loop μ-loop
+part-in-table-start c = search needs
 
-part-keeps-by-end : tie.Need-part-keeps-by-end Inv-loop μ-loop
-part-keeps-by-end c = omega (arith, inside c)
+part-in-table-end : tie.Need-part-in-table-end Inv-loop μ-loop
+part-in-table-end c = omega (arith, inside c)
 
 add-n : tie.Need-add-n Inv-loop μ-loop
 add-n c =
@@ -52,9 +52,9 @@ loop-again c =
     let turn = c .before .before .before in
     let a = turn .before .before .before .args in
     let l = turn .before .loop in
-    let keep = keepsBy (now (a .table)) (now (a .boxes)) (a .format) in
+    let keep = inTable (now (a .table)) (a .format) in
     let lent = take (l .at + a .record-length - l .at) (drop (l .at) (now (a .run))) in
-    let kept : c .before .keeps-by .result ≡ keep lent = c .before .keeps-by .ensures in
+    let kept : c .before .in-table .result ≡ keep lent = c .before .in-table .ensures in
     rw (c .one-if .ensures .0)
     (count-next keep (a .record-length) (a .count) (now (a .run)) (l .left) (l .at) (l .n) (turn .loop-test .taken) (l .inv) _
     (kept ∙ ap keep (lent-record (l .at) (a .record-length) (now (a .run)))))
@@ -72,9 +72,9 @@ count-run-spec =
     μ-loop
     loop-holds
     add-next
-    sub-keeps-by
-    part-keeps-by-start
-    part-keeps-by-end
+    sub-in-table
+    part-in-table-start
+    part-in-table-end
     (λ c κs. tt)
     (λ c κs. tt)
     add-n
