@@ -1,10 +1,12 @@
 //! Cutting lists and releases by them, beside releases of the first way: on the common file, and as files grow.
 
 mod growth;
-mod times;
-mod ways;
+pub mod times;
+pub mod ways;
 
 use std::time::Duration;
+
+use korbishaf::sys::las_released;
 
 use crate::builds::Builds;
 use crate::cases::{COMMON, rounds};
@@ -86,12 +88,13 @@ fn cells(name: &str, times: &Times) -> Vec<String> {
     figures(name, all)
 }
 
-/// Asserts that all sides make the same list, and by it the release of the first way.
-fn assert_same(all: &[&dyn Ways], file: &[u8], sheet: &[u8]) {
+/// Asserts that all sides make the same list, and by it the release of the first way, which is the same again in an
+/// output of exactly the released length. Gives the numbers of the release.
+pub fn assert_same(all: &[&dyn Ways], file: &[u8], sheet: &[u8]) -> las_released {
     let [mut expected, mut out] = [0x77, 0xEE].map(|junk| vec![junk; file.len()]);
     let numbers = all[0].release(file, sheet, &mut expected);
     assert_eq!(numbers.number, 0);
-    let lines = numbers.points + numbers.records;
+    let (lines, exact) = (numbers.points + numbers.records, numbers.length as usize);
     let mut lists = Vec::new();
     for ways in all {
         ways.clear();
@@ -103,11 +106,17 @@ fn assert_same(all: &[&dyn Ways], file: &[u8], sheet: &[u8]) {
         assert!(ways.lines() == list, "the lists of one side differ");
         lists.push(list);
         out.fill(0xEE);
+        assert_eq!(ways.release(file, sheet, &mut out[..exact]), numbers);
+        assert!(
+            out[..exact] == expected[..exact],
+            "the exact outputs differ"
+        );
     }
     assert!(
         lists.iter().all(|list| *list == lists[0]),
         "the lists differ"
     );
+    numbers
 }
 
 #[cfg(test)]

@@ -6,6 +6,7 @@
 //! again. With `-- --tool PROGRAM FOLDER` it times the command `korbishaf` instead, on files in that folder, and with
 //! `-- --records A.so B.so [A.so B.so ..]` pairs of builds on records.
 
+mod boxes;
 mod builds;
 mod calls;
 mod cases;
@@ -78,4 +79,6 @@ fn compare(builds: &Builds) {
     geokey_lookups::compare(builds);
     println!();
     lists::compare(builds);
+    println!();
+    boxes::compare(builds);
 }

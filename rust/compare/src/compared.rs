@@ -1,5 +1,6 @@
 //! Both sides called on one case: equal answers, equal bytes, whole guards.
 
+mod boxes;
 mod lists;
 mod lookups;
 
@@ -8,6 +9,7 @@ use std::fmt::Debug;
 
 use crate::answers::{ClassLine, Header, Kept, Mended, Point, Record, Released};
 use crate::lent::Lent;
+use crate::spec::ByBoxes;
 use crate::{ours, plain};
 
 /// The functions of the interface that answer with the specification's numbers.
@@ -54,13 +56,22 @@ impl Function {
         numbers.insert(0);
         numbers
     }
+
+    /// Whether it goes by which points of a file a sheet keeps.
+    fn keeps_points(self) -> bool {
+        matches!(
+            self,
+            Self::Release | Self::CuttingList | Self::ReleaseByList
+        )
+    }
 }
 
-/// Calls both sides and remembers which numbers each function gave.
+/// Calls both sides and remembers which numbers each function gave, and what boxes decided.
 #[derive(Debug, Default)]
 pub struct Compared {
     case: String,
     reached: BTreeMap<Function, BTreeSet<u64>>,
+    decided: BTreeMap<Function, BTreeSet<ByBoxes>>,
 }
 
 impl Compared {
@@ -74,7 +85,7 @@ impl Compared {
         self
     }
 
-    /// Fails if a function did not give every number it has.
+    /// Fails if a function did not give every number it has, or goes by kept points and boxes decided about none.
     pub fn assert_all_reached(&self, functions: &[Function]) {
         for function in functions {
             let reached = self.reached.get(function).cloned().unwrap_or_default();
@@ -84,6 +95,8 @@ impl Compared {
                 "numbers reached by {function:?}"
             );
         }
+        let keeping = functions.iter().filter(|function| function.keeps_points());
+        self.assert_boxes_decided(&keeping.copied().collect::<Vec<_>>());
     }
 
     pub fn check_file(&mut self, file: &[u8]) -> u64 {
@@ -225,6 +238,9 @@ impl Compared {
         self.agree(Function::Release, answer.number, answer, other);
         self.untouched(&[&lent_file, &lent_sheet]);
         self.written(&lent_out, &out, answer.number);
+        if answer.number == 0 {
+            self.remember_boxes(Function::Release, file, sheet);
+        }
         self.second_way(file, sheet, before, (answer, lent_out.content()));
         (answer, lent_out.content().to_vec())
     }

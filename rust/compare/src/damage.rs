@@ -131,7 +131,7 @@ pub fn damage_sheet(rng: &mut Rng, sheet: &mut Vec<u8>) {
         sheet.truncate(rng.below(sheet.len()));
     } else {
         let place = rng.below(sheet.len());
-        sheet[place] = rng.pick(&[0, 1, 2, 3, 0x4B, 0x53, 255]);
+        sheet[place] = rng.pick(&[0, 1, 2, 3, 4, 0x4B, 0x53, 0x80, 255]);
     }
 }
 

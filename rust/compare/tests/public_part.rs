@@ -361,7 +361,7 @@ fn a_released_file_releases_to_itself_with_and_without_the_zeros_behind_it() {
             let sheet = if rng.chance(50) {
                 sheet()
             } else {
-                SheetSpec::random(&mut rng)
+                SheetSpec::random_for(&mut rng, &spec)
             };
             let sheet = sheet.bytes();
             compared.case(format!("seed {seed}, file {round}"));

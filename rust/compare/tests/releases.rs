@@ -4,7 +4,10 @@ use compare::answers::Released;
 use compare::compared::{Compared, Function};
 use compare::damage::{damage, spoil};
 use compare::rng::{Rng, seeds};
-use compare::spec::{FileSpec, LineSpec, RecordSpec, SheetSpec, padded, projection, random_point};
+use compare::spec::{
+    BoxSpec, FileSpec, LineSpec, RecordSpec, SheetSpec, padded, place_of, projection, put_place,
+    random_point,
+};
 
 fn kept_records<'a>(spec: &'a FileSpec, sheet: &SheetSpec) -> Vec<&'a RecordSpec> {
     spec.records
@@ -62,10 +65,12 @@ fn random_files_and_sheets_release_equal_bytes_into_outputs_of_all_lengths() {
         let mut rng = Rng::new(seed);
         let mut compared = Compared::new();
         for round in 0..8000 {
-            let (spec, sheet) = (FileSpec::random(&mut rng), SheetSpec::random(&mut rng));
+            let spec = FileSpec::random(&mut rng);
+            let sheet = SheetSpec::random_for(&mut rng, &spec);
             compared.case(format!("seed {seed}, file {round}"));
             release_everywhere(&mut compared, &mut rng, &spec, &sheet);
         }
+        compared.assert_boxes_decided(&[Function::Release]);
     }
 }
 
@@ -75,8 +80,9 @@ fn damaged_files_and_sheets_release_equally_or_not_at_all() {
         let mut rng = Rng::new(seed);
         let mut compared = Compared::new();
         for round in 0..12_000 {
-            let mut file = FileSpec::random(&mut rng).bytes();
-            let mut sheet = SheetSpec::random(&mut rng).bytes();
+            let spec = FileSpec::random(&mut rng);
+            let mut sheet = SheetSpec::random_for(&mut rng, &spec).bytes();
+            let mut file = spec.bytes();
             if rng.chance(70) {
                 damage(&mut rng, &mut file);
             }
@@ -92,13 +98,19 @@ fn damaged_files_and_sheets_release_equally_or_not_at_all() {
 }
 
 fn damage_sheet(rng: &mut Rng, sheet: &mut Vec<u8>) {
-    match rng.below(5) {
+    match rng.below(6) {
         0 => sheet.extend(rng.some_bytes(5)),
         1 => sheet.truncate(rng.below(sheet.len() + 1)),
         2 => sheet.extend(LineSpec::Classes(1, 1).bytes().repeat(64)),
         3 => sheet
             .splice(0..0, LineSpec::Classes(3, 2).bytes())
             .for_each(drop),
+        4 => {
+            let mut reversed = BoxSpec::random(rng);
+            let axis = rng.below(3);
+            (reversed.low[axis], reversed.high[axis]) = (0, -1);
+            sheet.extend(LineSpec::Box(reversed).bytes());
+        }
         _ if sheet.is_empty() => sheet.push(0x4B),
         _ => {
             let place = rng.below(sheet.len());
@@ -115,40 +127,46 @@ fn refused(number: u64, length: u64) -> Released {
     }
 }
 
+/// A file of which a box keeps three points of four.
+fn file_with_a_point_outside() -> FileSpec {
+    let mut outside = vec![2; 28];
+    put_place(&mut outside, [0; 3]);
+    FileSpec {
+        records: vec![projection(7, vec![1; 9])],
+        points: vec![vec![2; 28], vec![2; 28], outside, vec![2; 28]],
+        ..FileSpec::bare(1)
+    }
+}
+
 #[test]
 fn refusals_come_in_the_order_file_sheet_room() {
-    let spec = FileSpec {
-        records: vec![projection(7, vec![1; 9])],
-        points: vec![vec![2; 28]; 3],
-        ..FileSpec::bare(1)
-    };
+    let (file, mut compared) = (file_with_a_point_outside().bytes(), Compared::new());
     let too_many = b"KS\x01\x02\x02".repeat(65);
-    let sheets: [(&[u8], u64); 6] = [
-        (b"KS\x01\x02\x02", 30),
+    let boxed = [b"KS\x01\x02\x02KS\x03".as_slice(), &[2; 24]].concat();
+    let reversed = [b"KS\x03".as_slice(), &[2; 20], &[1; 4]].concat();
+    let sheets: [(&[u8], u64); 9] = [
+        (&boxed, 30),
         (b"KT\x01\x02\x02", 20),
         (b"KS\x00", 21),
+        (b"KS\x04", 21),
         (b"KS", 22),
+        (&reversed[..26], 22),
         (b"KS\x01\x03\x02", 23),
+        (&reversed, 23),
         (&too_many, 24),
     ];
-    let mut compared = Compared::new();
     for (sheet, number) in sheets {
         for number in 1..=10 {
-            let mut file = spec.bytes();
-            spoil(&mut file, number);
-            let (answer, _) = compared.release(&file, sheet, &[0xEE; 3]);
+            let mut spoiled = file.clone();
+            spoil(&mut spoiled, number);
+            let (answer, _) = compared.release(&spoiled, sheet, &[0xEE; 3]);
             assert_eq!(answer, refused(number, 0));
         }
-        let (answer, _) = compared.release(&spec.bytes(), sheet, &[0xEE; 226]);
+        let (answer, _) = compared.release(&file, sheet, &[0xEE; 226]);
         assert_eq!(answer, refused(number, if number == 30 { 311 } else { 0 }));
     }
-    assert_eq!(
-        compared
-            .release(&spec.bytes(), sheets[0].0, &[0xEE; 311])
-            .0
-            .number,
-        0
-    );
+    let (answer, _) = compared.release(&file, &boxed, &[0xEE; 311]);
+    assert_eq!((answer.number, answer.points), (0, 3));
     compared.assert_all_reached(&[Function::Release]);
 }
 
@@ -177,26 +195,25 @@ fn bounds_are_the_coordinates_of_the_kept_extremes() {
     for seed in seeds() {
         let mut rng = Rng::new(seed);
         let mut compared = Compared::new();
-        let sheet = SheetSpec::new([LineSpec::Classes(0, 4)]);
         for round in 0..3000 {
             let spec = FileSpec::random(&mut rng);
+            let mut sheet = SheetSpec::random_for(&mut rng, &spec);
+            sheet.lines.truncate(63);
+            sheet.lines.push(LineSpec::Classes(0, 4));
             let length = due(&spec, &sheet).length as usize;
             compared.case(format!("seed {seed}, file {round}"));
             let (_, out) = compared.release(&spec.bytes(), &sheet.bytes(), &vec![0xEE; length]);
             let kept = kept_points(&spec, &sheet);
             for axis in 0..3 {
-                let stored = kept.iter().map(|point| stored(point, axis));
+                let stored = kept.iter().map(|point| place_of(point)[axis]);
                 let bounds = [stored.clone().max(), stored.min()];
                 let due = bounds.map(|stored| stored.map_or(0, |stored| bits(&spec, axis, stored)));
                 let written = [179, 187].map(|at| bits_at(&out, at + 16 * axis));
                 assert_eq!(written, due, "axis {axis}");
             }
         }
+        compared.assert_boxes_decided(&[Function::Release]);
     }
-}
-
-fn stored(point: &[u8], axis: usize) -> i32 {
-    i32::from_le_bytes(point[4 * axis..4 * axis + 4].try_into().unwrap())
 }
 
 fn bits(spec: &FileSpec, axis: usize, stored: i32) -> u64 {

@@ -6,7 +6,7 @@ use compare::ours;
 use compare::spec::{FileSpec, LineSpec, RecordSpec, SheetSpec};
 
 /// The change request up to which `las_plain` and these comparisons speak.
-const LEVEL: u64 = 6;
+const LEVEL: u64 = 7;
 
 const P3: [u8; 5] = [0x4B, 0x53, 1, 2, 2];
 

@@ -1,45 +1,23 @@
 //! The keep sheet: the numbers 20 to 24, and what a sheet keeps.
 
-use compare::compared::{Compared, Function};
+use compare::compared::Compared;
 use compare::damage::damage_sheet;
 use compare::rng::{Rng, seeds};
+use compare::sheet_calls::{SHEET_FUNCTIONS, call_all};
 use compare::sheet_ends::ENDS;
 use compare::spec::{
-    FileSpec, LineSpec, RECORD_IDS, RecordSpec, SheetSpec, USER_IDS, padded, with_tail,
+    BoxSpec, LineSpec, RECORD_IDS, RecordSpec, SheetSpec, USER_IDS, padded, with_tail,
 };
 
-const SHEET_FUNCTIONS: [Function; 4] = [
-    Function::CheckSheet,
-    Function::ClassKept,
-    Function::ClassTest,
-    Function::RecordKept,
-];
-
-/// Calls every function that takes a sheet; all give the sheet's number.
-fn call_all(compared: &mut Compared, sheet: &[u8]) -> u64 {
-    let number = compared.check_sheet(sheet);
-    let class = compared.class_kept(sheet, 2);
-    let line = compared.class_test(sheet, 2);
-    let record = compared.record_kept(sheet, b"user", 7);
-    assert_eq!([class.number, line.number, record.number], [number; 3]);
-    let file = FileSpec::bare(0).bytes();
-    let (released, _) = compared.release(&file, sheet, &[0xEE; 230]);
-    assert_eq!(released.number, number);
-    number
-}
-
+/// So many lines, of each kind in turn.
 fn lines(count: usize) -> Vec<u8> {
-    let classes = LineSpec::Classes(2, 3).bytes();
-    let record = LineSpec::Record(padded(b"user"), 7).bytes();
-    (0..count)
-        .flat_map(|line| {
-            if line % 2 == 0 {
-                classes.clone()
-            } else {
-                record.clone()
-            }
-        })
-        .collect()
+    let kinds = [
+        LineSpec::Classes(2, 3),
+        LineSpec::Record(padded(b"user"), 7),
+        LineSpec::Box(BoxSpec::WHOLE),
+    ];
+    let lines = kinds.iter().cycle().take(count);
+    lines.flat_map(LineSpec::bytes).collect()
 }
 
 #[test]
@@ -72,6 +50,7 @@ fn number_24_is_given_when_a_65th_line_begins_whatever_it_is() {
         b"KS",
         b"KT\x01",
         b"KS\x09",
+        b"KS\x03",
         b"KS\x01\x03\x02",
     ] {
         let sheet = [lines(64).as_slice(), end].concat();
@@ -92,6 +71,7 @@ fn every_kind_byte_and_every_mark_but_the_right_ones_is_refused() {
         let number = match byte {
             1 => 20, // the body's next line has a wrong mark
             2 => 22, // two bytes are left over
+            3 => 22, // four bytes are missing
             _ => 21,
         };
         assert_eq!(call_all(&mut compared, &kind), number, "kind {byte}");

@@ -95,7 +95,7 @@ fn calls<'a>(
 }
 
 /// A side with an output of this length, which has output and list cleared before each turn.
-fn side<'a>(ways: &'a dyn Ways, length: usize, call: impl Fn(&mut [u8]) + 'a) -> Side<'a> {
+pub fn side<'a>(ways: &'a dyn Ways, length: usize, call: impl Fn(&mut [u8]) + 'a) -> Side<'a> {
     Box::new(move |out| {
         out.fill(0);
         ways.clear();

@@ -31,6 +31,9 @@ impl Compared {
         self.agree(Function::CuttingList, answer.number, answer, other);
         self.untouched(&[&lent_file, &lent_sheet]);
         self.filled(file, &lent, &list, (answer.number, answer.lines));
+        if answer.number == 0 {
+            self.remember_boxes(Function::CuttingList, file, sheet);
+        }
         (answer, lent.content())
     }
 
@@ -60,6 +63,9 @@ impl Compared {
         self.written(&lent_out, &out, answer.number);
         let lines = answer.records + answer.points;
         self.filled(file, &lent, &list, (answer.number, lines));
+        if answer.number == 0 {
+            self.remember_boxes(Function::ReleaseByList, file, sheet);
+        }
         (answer, lent_out.content().to_vec(), lent.content())
     }
 

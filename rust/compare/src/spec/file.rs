@@ -1,5 +1,6 @@
 //! Whole files.
 
+use super::boxes::TELLING;
 use super::classification::{CLASSIFICATION, random_classification};
 use super::geokeys::{projection, random_geokeys};
 use super::record::RecordSpec;
@@ -8,6 +9,18 @@ use crate::rng::Rng;
 
 /// The sizes of the point formats 0 to 3.
 pub const POINT_SIZES: [u16; 4] = [20, 28, 26, 34];
+
+/// Formats, each without and with extra bytes.
+pub const LAYOUTS: [(u8, u16); 8] = [
+    (0, 0),
+    (0, 1),
+    (1, 0),
+    (1, 7),
+    (2, 0),
+    (2, 6),
+    (3, 0),
+    (3, 13),
+];
 
 /// A file. Header size, offset and counts follow from what it holds.
 #[derive(Debug, Clone, PartialEq)]
@@ -173,7 +186,7 @@ pub fn random_point(rng: &mut Rng, record_length: u16) -> Vec<u8> {
     let mut point = rng.bytes(record_length.into());
     for axis in 0..3 {
         if rng.chance(30) {
-            let stored: i32 = rng.pick(&[i32::MIN, i32::MIN + 1, -1, 0, 1, i32::MAX]);
+            let stored = rng.pick(&TELLING);
             point[4 * axis..4 * axis + 4].copy_from_slice(&stored.to_le_bytes());
         }
     }

@@ -1,7 +1,7 @@
 //! Which classes a line holds: those from its lowest to its highest, of all 256, with no flags in them.
 
 use compare::compared::Compared;
-use compare::spec::{LineSpec, SheetSpec};
+use compare::spec::{BoxSpec, LineSpec, SheetSpec};
 
 use super::table::{ask, held_by, held_by_none, line};
 
@@ -40,12 +40,14 @@ const HELD: [(u8, u8, u8, bool); 26] = [
 fn a_line_between_two_others_holds_what_is_written_here() {
     let mut compared = Compared::new();
     for (low, high, class, held) in HELD {
-        let lines = [line('r'), LineSpec::Classes(low, high), line('r')];
-        let case = format!("{low} to {high}, class {class}");
-        compared.case(&case);
-        let answer = ask(&mut compared, &SheetSpec::new(lines).bytes(), class);
-        let due = if held { held_by(2) } else { held_by_none(3) };
-        assert_eq!(answer, due, "{case}");
+        for other in ['r', 'b'] {
+            let lines = [line(other), LineSpec::Classes(low, high), line(other)];
+            let case = format!("{low} to {high}, class {class}");
+            compared.case(&case);
+            let answer = ask(&mut compared, &SheetSpec::new(lines).bytes(), class);
+            let due = if held { held_by(2) } else { held_by_none(3) };
+            assert_eq!(answer, due, "{case}");
+        }
     }
 }
 
@@ -92,12 +94,15 @@ fn of_lines_that_hold_more_and_more_classes_the_first_with_the_class_answers() {
 }
 
 #[test]
-fn an_empty_sheet_and_one_for_records_hold_no_class() {
+fn an_empty_sheet_one_for_records_and_one_of_boxes_hold_no_class() {
     let mut compared = Compared::new();
     let records = SheetSpec::new([line('r'), line('r')]).bytes();
+    let whole = LineSpec::Box(BoxSpec::WHOLE);
+    let boxes = SheetSpec::new([line('b'), whole, line('b')]).bytes();
     for class in 0..=255 {
         compared.case(format!("class {class}"));
         assert_eq!(ask(&mut compared, &[], class), held_by_none(0));
         assert_eq!(ask(&mut compared, &records, class), held_by_none(2));
+        assert_eq!(ask(&mut compared, &boxes, class), held_by_none(3));
     }
 }

@@ -4,26 +4,31 @@ use compare::answers::ClassLine;
 use compare::compared::{Compared, Function};
 use compare::damage::damage_sheet;
 use compare::rng::{Rng, seeds};
-use compare::spec::{LineSpec, SheetSpec};
+use compare::spec::{BoxSpec, LineSpec, SheetSpec};
 
 use super::table::{CLASS, ask, due, line, refused, sheet};
 
 /// The lines of the sheets that are damaged.
-const SHEETS: [&str; 6] = ["=", "r=", "=r", "<=>", "r<=>r=", "<r>rr"];
+const SHEETS: [&str; 9] = [
+    "=", "r=", "=r", "b=", "=b", "<=>", "r<=>r=", "b<=>b=", "<r>rbb",
+];
 
 /// The answer with this byte at a place of one line; none where a line becomes one of the other kind, since all behind
 /// it is then read as other lines.
 fn due_with(letters: &str, index: usize, place: usize, byte: u8) -> Option<ClassLine> {
     let damaged = line(letters.as_bytes()[index].into());
-    if damaged.bytes()[place] == byte {
+    let mut bytes = damaged.bytes();
+    if bytes[place] == byte {
         return Some(due(letters));
     }
+    bytes[place] = byte;
     match (place, damaged) {
         (0 | 1, _) => Some(refused(20)),
-        (2, _) => (byte != 1 && byte != 2).then_some(refused(21)),
+        (2, _) => (!(1..=3).contains(&byte)).then_some(refused(21)),
         (3, LineSpec::Classes(_, high)) => Some(due_with_range(letters, index, byte, high)),
         (_, LineSpec::Classes(low, _)) => Some(due_with_range(letters, index, low, byte)),
-        (_, LineSpec::Record(..)) => Some(due(letters)),
+        (_, LineSpec::Box(_)) if BoxSpec::read(&bytes[3..]).is_reversed() => Some(refused(23)),
+        (_, LineSpec::Record(..) | LineSpec::Box(_)) => Some(due(letters)),
     }
 }
 

@@ -5,7 +5,7 @@ use compare::compared::Compared;
 use super::table::{CLASS, ask, held_by, held_by_none, sheet};
 
 /// What stands, over and over, where no line holds the class.
-const OTHERS: [&str; 5] = ["<", ">", "r", "<r>", "rr>"];
+const OTHERS: [&str; 8] = ["<", ">", "r", "b", "<r>", "rr>", "b<", "rb>"];
 
 /// So many lines of which none holds the class.
 fn others(pattern: &str, count: usize) -> String {

@@ -5,7 +5,7 @@ use compare::compared::Compared;
 use super::table::{CLASS, LETTERS, ask, due, sheet};
 
 /// A sheet's lines, whether one holds the class, and how many are looked at for it.
-const WRITTEN: [(&str, u64, u64); 30] = [
+const WRITTEN: [(&str, u64, u64); 40] = [
     ("", 0, 0),
     ("=", 1, 1),
     ("<", 0, 1),
@@ -33,7 +33,18 @@ const WRITTEN: [(&str, u64, u64); 30] = [
     ("r=r", 1, 2),
     ("rr=rr", 1, 3),
     ("r=r=r", 1, 2),
+    // Behind boxes, before them and between them.
+    ("b=", 1, 2),
+    ("bbb=", 1, 4),
+    ("=b", 1, 1),
+    ("=bbb", 1, 1),
+    ("b=b", 1, 2),
+    ("br=rb", 1, 3),
+    ("<b>b=", 1, 5),
     // None.
+    ("b", 0, 1),
+    ("bbbbb", 0, 5),
+    ("r<b>r", 0, 5),
     ("<>", 0, 2),
     ("<<<", 0, 3),
     ("rr", 0, 2),
@@ -71,5 +82,5 @@ fn every_sheet_of_up_to_six_lines_answers_by_the_first_that_holds_the_class() {
         assert_eq!(answer, due(&letters), "{letters}");
         reached[letters.matches('=').count().min(2)] += 1;
     }
-    assert_eq!(reached, [1093, 2005, 2363]);
+    assert_eq!(reached, [5461, 7737, 6333]);
 }

@@ -3,7 +3,7 @@
 use compare::answers::ClassLine;
 use compare::compared::Compared;
 use compare::rng::{Rng, seeds};
-use compare::spec::{LineSpec, SheetSpec};
+use compare::spec::{BoxSpec, LineSpec, SheetSpec};
 
 use super::table::{ask, held_by, held_by_none};
 
@@ -16,7 +16,7 @@ fn due(lines: &[LineSpec], class: u8) -> ClassLine {
 /// A name for how lines stand for a class, and whether they stand so.
 type Kind = (&'static str, fn(&[LineSpec], u8) -> bool);
 
-const KINDS: [Kind; 6] = [
+const KINDS: [Kind; 7] = [
     ("no line at all", |lines, _| lines.is_empty()),
     ("none holds it", |lines, class| {
         !lines.is_empty() && holding(lines, class) == 0
@@ -30,6 +30,11 @@ const KINDS: [Kind; 6] = [
     ("several hold it", |lines, class| holding(lines, class) > 1),
     ("it is held behind a line for records", |lines, class| {
         holding(lines, class) > 0 && matches!(lines[0], LineSpec::Record(..))
+    }),
+    ("it is held behind a box", |lines, class| {
+        let first = lines.iter().position(|line| line.holds_class(class));
+        let mut before = lines[..first.unwrap_or(0)].iter();
+        before.any(|line| matches!(line, LineSpec::Box(_)))
     }),
 ];
 
@@ -62,13 +67,15 @@ fn random_sheets_answer_by_the_first_line_that_holds_the_class() {
     }
 }
 
-/// A line that does not hold the class; it is for a record, or ends below the class or begins above it, often just so.
+/// A line that does not hold the class; it is for a record or a box, or ends below the class or begins above it, often
+/// just so.
 fn other_line(rng: &mut Rng, class: u8) -> LineSpec {
     let by = rng.pick(&[1, 1, 2, 30, 200]);
     let (below, above) = (class.checked_sub(by), class.checked_add(by));
-    match (rng.below(3), below, above) {
+    match (rng.below(4), below, above) {
         (0, Some(high), _) => LineSpec::Classes(rng.from_to(0, high.into()) as u8, high),
         (1, _, Some(low)) => LineSpec::Classes(low, rng.from_to(low.into(), 255) as u8),
+        (2, ..) => LineSpec::Box(BoxSpec::random(rng)),
         _ => LineSpec::Record(rng.array(), rng.next() as u16),
     }
 }

@@ -2,25 +2,30 @@
 
 use compare::answers::ClassLine;
 use compare::compared::Compared;
-use compare::spec::LineSpec;
+use compare::spec::{BoxSpec, LineSpec};
 
 /// The class that is asked about where a sheet is written in letters.
 pub const CLASS: u8 = 6;
 
 /// The letters of all lines.
-pub const LETTERS: [char; 4] = ['=', '<', '>', 'r'];
+pub const LETTERS: [char; 5] = ['=', '<', '>', 'r', 'b'];
 
 /// The user ID on lines for records: its first bytes would be a range that holds every class, and lines for the class
 /// stand in it.
 const USER: [u8; 16] = *b"\x00\xFFKS\x01\x06\x06KS\x01\x06\x06\x00\xFFKS";
 
-/// `=` is a line for the class; `<` ends just below it, `>` begins just above it, and `r` is for a record.
+/// The values of boxes: their first bytes too would be a range that holds every class, and a line for the class would
+/// begin behind them, or where a line for a record ends.
+const BOX: &[u8; 24] = b"\x00\xFFKS\x01\x06\x06\x60KS\x01\x06KS\x01\x06\x06\0KS\x01\x06\x06\x60";
+
+/// `=` is a line for the class; `<` ends just below it, `>` begins just above it, `r` is for a record, `b` is a box.
 pub fn line(letter: char) -> LineSpec {
     match letter {
         '=' => LineSpec::Classes(CLASS, CLASS),
         '<' => LineSpec::Classes(0, CLASS - 1),
         '>' => LineSpec::Classes(CLASS + 1, 255),
         'r' => LineSpec::Record(USER, 7),
+        'b' => LineSpec::Box(BoxSpec::read(BOX)),
         _ => panic!("no line has the letter {letter}"),
     }
 }
@@ -88,6 +93,9 @@ fn the_letters_are_the_lines_that_are_written_here() {
     assert_eq!(sheet(">"), [0x4B, 0x53, 1, 7, 255]);
     assert_eq!(sheet("r")[..5], [0x4B, 0x53, 2, 0, 255]);
     assert_eq!(sheet("r")[5..10], sheet("="));
+    assert_eq!(sheet("b")[..5], [0x4B, 0x53, 3, 0, 255]);
+    assert_eq!(sheet("b")[5..10], sheet("="));
+    assert_eq!(sheet("b")[21..26], sheet("="));
 }
 
 #[test]

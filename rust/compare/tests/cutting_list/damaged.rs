@@ -7,7 +7,7 @@ use compare::damage::{
 };
 use compare::partly_kept;
 use compare::rng::{Rng, seeds};
-use compare::spec::{FileSpec, LineSpec, POINT_SIZES, SheetSpec, random_scale};
+use compare::spec::{BoxSpec, FileSpec, LineSpec, POINT_SIZES, SheetSpec, random_scale};
 
 use super::table::junk;
 
@@ -44,8 +44,9 @@ fn damaged_files_and_sheets_are_listed_and_released_equally_or_not_at_all() {
         let (mut rng, mut compared) = (Rng::new(seed), Compared::new());
         for round in 0..12_000 {
             let (mut file, mut sheet) = if rng.chance(50) {
-                let sheet = SheetSpec::random(&mut rng).bytes();
-                (FileSpec::random(&mut rng).bytes(), sheet)
+                let spec = FileSpec::random(&mut rng);
+                let sheet = SheetSpec::random_for(&mut rng, &spec);
+                (spec.bytes(), sheet.bytes())
             } else {
                 let sheet = partly_kept::sheet().bytes();
                 (partly_kept::mixed_file(&mut rng).bytes(), sheet)
@@ -123,10 +124,13 @@ fn header_before_random_bytes(rng: &mut Rng) -> Vec<u8> {
     file
 }
 
-/// Keeps about half of all classes, and the first record if there is one.
+/// Keeps about half of all classes, often in boxes, and the first record if there is one.
 fn sheet_for(rng: &mut Rng, file: &[u8]) -> Vec<u8> {
     let low = rng.below(20) as u8;
     let mut lines = vec![LineSpec::Classes(low, low + 16)];
+    for _ in 0..rng.below(3) {
+        lines.push(LineSpec::Box(BoxSpec::random(rng)));
+    }
     if let Some(first) = file.get(227..247) {
         let user = first[2..18].try_into().expect("a user ID has 16 bytes");
         let record_id = u16::from_le_bytes([first[18], first[19]]);
@@ -156,5 +160,6 @@ fn random_bytes_behind_a_header_are_listed_and_released_equally_or_not_at_all() 
             reached[kind] += 1;
         }
         assert!(reached.iter().all(|&times| times > 500), "{reached:?}");
+        compared.assert_boxes_decided(&BOTH);
     }
 }

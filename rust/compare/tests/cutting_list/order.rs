@@ -3,18 +3,20 @@
 use compare::compared::{Compared, Function};
 use compare::damage::spoil;
 use compare::rng::{FIXED_SEED, Rng};
-use compare::spec::{FileSpec, projection};
+use compare::spec::{FileSpec, projection, put_place};
 
 use super::table::{junk, listed, not_listed, refused};
 
-/// What one sheet keeps of the file: three points and a record.
+/// What one sheet keeps of the file: three points in a box, and a record.
 const LINES: usize = 4;
 const LENGTH: usize = 227 + 54 + 9 + 3 * 28;
 
 fn file() -> Vec<u8> {
+    let mut outside = vec![2; 28];
+    put_place(&mut outside, [0; 3]);
     FileSpec {
         records: vec![projection(7, vec![1; 9]), projection(8, vec![1; 9])],
-        points: vec![vec![2; 28], vec![2; 28], vec![3; 28], vec![2; 28]],
+        points: vec![vec![2; 28], outside, vec![2; 28], vec![3; 28], vec![2; 28]],
         trailing: vec![2; 100],
         ..FileSpec::bare(1)
     }
@@ -22,17 +24,23 @@ fn file() -> Vec<u8> {
 }
 
 /// The sheet that keeps them, with 0, and that sheet with a fault at its end, with the fault's number.
-fn sheets() -> [(Vec<u8>, u64); 6] {
-    let good = b"KS\x01\x02\x02KS\x02LASF_Projection\0\x07\0";
-    let ends: [(&[u8], u64); 5] = [
+fn sheets() -> [(Vec<u8>, u64); 10] {
+    let front = b"KS\x01\x02\x02KS\x02LASF_Projection\0\x07\0KS\x03";
+    let good = [front.as_slice(), &[2; 24]].concat();
+    let reversed = [b"KS\x03".as_slice(), &[2; 20], &[1; 4]].concat();
+    let ends: [(&[u8], u64); 10] = [
+        (b"", 0),
         (b"KT\x01\x02\x02", 20),
         (b"KS\x00", 21),
+        (b"KS\x04", 21),
         (b"KS", 22),
+        (&reversed[..3], 22),
+        (&reversed[..26], 22),
         (b"KS\x01\x03\x02", 23),
-        (&b"KS\x01\x02\x02".repeat(63), 24),
+        (&reversed, 23),
+        (&b"KS\x01\x02\x02".repeat(62), 24),
     ];
-    let [mark, kind, cut, range, lines] = ends.map(|(end, number)| ([good, end].concat(), number));
-    [(good.to_vec(), 0), mark, kind, cut, range, lines]
+    ends.map(|(end, number)| ([good.as_slice(), end].concat(), number))
 }
 
 /// Lengths of lists and outputs: too short, too short by one, exact, longer; with 31 or 30 where they are too short.

@@ -2,12 +2,36 @@
 //! long enough. The lists themselves show places, so they may differ.
 
 use compare::answers::Line;
-use compare::compared::Compared;
-use compare::partly_kept::{PRIVATE, mixed_file, sheet};
+use compare::boxed;
+use compare::compared::{Compared, Function};
+use compare::partly_kept::{self, Change, PRIVATE};
 use compare::rng::{Rng, seeds};
-use compare::spec::FileSpec;
+use compare::spec::{FileSpec, SheetSpec};
 
 use super::table::{Case, junk, refused};
+
+/// Files, a sheet, and changes of what is then outside the public part.
+struct Source {
+    file: fn(&mut Rng) -> FileSpec,
+    sheet: SheetSpec,
+    changes: Vec<(&'static str, Change)>,
+}
+
+/// Without boxes and with some, for each seed.
+fn sources() -> impl Iterator<Item = (u64, Source)> {
+    let without = || Source {
+        file: partly_kept::mixed_file,
+        sheet: partly_kept::sheet(),
+        changes: PRIVATE.to_vec(),
+    };
+    let with = || Source {
+        file: boxed::file,
+        sheet: boxed::sheet(),
+        changes: boxed::private().collect(),
+    };
+    let both = move |seed| [(seed, without()), (seed, with())];
+    seeds().into_iter().flat_map(both)
+}
 
 /// Releases both files by lists that are long enough but of differing lengths, into outputs of one length; all hold
 /// differing junk. Numbers and outputs are the same. Gives both lists.
@@ -45,9 +69,10 @@ fn assert_same(
 fn assert_same_everywhere(
     compared: &mut Compared,
     rng: &mut Rng,
-    [one, other]: [&FileSpec; 2],
+    pair: [&FileSpec; 2],
+    sheet: &SheetSpec,
 ) -> bool {
-    let pair = [one, other].map(|spec| Case::new(spec, &sheet()));
+    let pair = pair.map(|spec| Case::new(spec, sheet));
     let needed = pair[0].needed();
     let [first, second] = assert_same(compared, rng, &pair, needed);
     for room in [needed + 1, needed + rng.from_to(2, 100), needed - 1, 0] {
@@ -59,17 +84,17 @@ fn assert_same_everywhere(
 
 #[test]
 fn each_private_item_changed_alone_gives_the_same_output_and_numbers_by_a_list() {
-    for seed in seeds() {
+    for (seed, source) in sources() {
         let (mut rng, mut compared) = (Rng::new(seed), Compared::new());
-        for (name, change) in PRIVATE {
+        for (name, change) in source.changes {
             let mut differing = 0;
             for round in 0..300 {
-                let spec = mixed_file(&mut rng);
+                let spec = (source.file)(&mut rng);
                 let mut other = spec.clone();
                 change(&mut rng, &mut other);
                 differing += u32::from(spec.bytes() != other.bytes());
                 compared.case(format!("seed {seed}, {name}, pair {round}"));
-                assert_same_everywhere(&mut compared, &mut rng, [&spec, &other]);
+                assert_same_everywhere(&mut compared, &mut rng, [&spec, &other], &source.sheet);
             }
             assert!(differing > 110, "{name}: only {differing} pairs differ");
         }
@@ -78,20 +103,24 @@ fn each_private_item_changed_alone_gives_the_same_output_and_numbers_by_a_list()
 
 #[test]
 fn all_private_items_changed_together_show_in_the_list_alone() {
-    for seed in seeds() {
+    for (seed, source) in sources() {
         let (mut rng, mut compared) = (Rng::new(seed), Compared::new());
         let mut other_lists = 0;
         for round in 0..3000 {
-            let spec = mixed_file(&mut rng);
+            let spec = (source.file)(&mut rng);
             let mut other = spec.clone();
-            for (_, change) in PRIVATE {
+            for (_, change) in &source.changes {
                 change(&mut rng, &mut other);
             }
             assert_ne!(spec.bytes(), other.bytes());
             compared.case(format!("seed {seed}, pair {round}"));
-            let differ = assert_same_everywhere(&mut compared, &mut rng, [&spec, &other]);
+            let differ =
+                assert_same_everywhere(&mut compared, &mut rng, [&spec, &other], &source.sheet);
             other_lists += u32::from(differ);
         }
         assert!(other_lists > 2000, "only {other_lists} lists differ");
+        if source.sheet.has_boxes() {
+            compared.assert_boxes_decided(&[Function::ReleaseByList]);
+        }
     }
 }

@@ -4,8 +4,8 @@ use compare::answers::Line;
 use compare::compared::Compared;
 use compare::rng::{FIXED_SEED, Rng};
 use compare::spec::{
-    FileSpec, KEY_POINT, LineSpec, RecordSpec, SYNTHETIC, SheetSpec, WITHHELD, padded,
-    random_point_of,
+    BoxSpec, FileSpec, KEY_POINT, LineSpec, RecordSpec, SYNTHETIC, SheetSpec, WITHHELD, padded,
+    put_place, random_point_of,
 };
 
 use super::table::{Case, line};
@@ -20,8 +20,8 @@ fn record(user: &[u8], record_id: u16, payload: usize) -> RecordSpec {
     }
 }
 
-/// Records at 230, 294, 348, 602 and 657, which end at 711; points of 31 bytes at 716, 747 and so on, up to 933, and
-/// bytes behind them.
+/// Records at 230, 294, 348, 602 and 657, which end at 711; points of 31 bytes at 716, 747 and so on, up to 933, with X
+/// 0, 1 and so on, up to 6; and bytes behind them.
 fn file() -> FileSpec {
     let mut rng = Rng::new(FIXED_SEED);
     let mut spec = FileSpec {
@@ -48,15 +48,28 @@ fn file() -> FileSpec {
         6 | SYNTHETIC | WITHHELD,
     ];
     spec.points = bytes.map(|byte| random_point_of(&mut rng, 31, byte)).into();
+    for (x, point) in (0..).zip(&mut spec.points) {
+        put_place(point, [x, -x, 100 * x]);
+    }
     spec
 }
 
 /// A sheet with these lines, and the list that it makes of the file.
-fn written() -> Vec<(Vec<LineSpec>, Vec<Line>)> {
+type Written = (Vec<LineSpec>, Vec<Line>);
+
+fn name(user: &[u8], record_id: u16) -> LineSpec {
+    LineSpec::Record(padded(user), record_id)
+}
+
+/// The lines of all records of one name.
+fn of_user() -> [Line; 3] {
+    [line(284, 10), line(402, 200), line(711, 0)]
+}
+
+fn written() -> Vec<Written> {
     let classes = LineSpec::Classes;
-    let name = |user: &[u8], record_id| LineSpec::Record(padded(user), record_id);
     let (user, other) = (name(b"user", 7), name(b"other", 7));
-    let of_user = [line(284, 10), line(402, 200), line(711, 0)];
+    let records = [line(284, 10), line(348, 0), line(402, 200), line(711, 0)];
     vec![
         (vec![], vec![]),
         (vec![classes(2, 2)], vec![line(716, 31), line(778, 31)]),
@@ -64,16 +77,12 @@ fn written() -> Vec<(Vec<LineSpec>, Vec<Line>)> {
         (vec![classes(6, 31)], vec![line(840, 31), line(871, 31)]),
         (
             vec![classes(0, 255)],
-            vec![
-                line(716, 31),
-                line(747, 31),
-                line(778, 31),
-                line(840, 31),
-                line(871, 31),
-            ],
+            [716, 747, 778, 840, 871]
+                .map(|place| line(place, 31))
+                .into(),
         ),
         (vec![classes(66, 255)], vec![]),
-        (vec![user.clone()], of_user.to_vec()),
+        (vec![user.clone()], of_user().to_vec()),
         (vec![other.clone()], vec![line(348, 0)]),
         (vec![name(b"user", 8)], vec![line(656, 1)]),
         (vec![name(b"use", 7)], vec![]),
@@ -86,15 +95,37 @@ fn written() -> Vec<(Vec<LineSpec>, Vec<Line>)> {
                 name(b"user ", 7),
                 other,
             ],
-            [
-                &[line(284, 10), line(348, 0), line(402, 200), line(711, 0)][..],
-                &[line(716, 31), line(747, 31), line(778, 31)],
-            ]
-            .concat(),
+            [&records[..], &[716, 747, 778].map(|place| line(place, 31))].concat(),
         ),
         (
             vec![user, classes(31, 31)],
-            [&of_user[..], &[line(871, 31)]].concat(),
+            [&of_user()[..], &[line(871, 31)]].concat(),
+        ),
+    ]
+}
+
+/// Boxes keep points of the classes alone, and have no part in which records are kept.
+fn written_with_boxes() -> Vec<Written> {
+    let classes = LineSpec::Classes;
+    // From one X to another, with Y and Z to match.
+    let boxed = |low: i32, high: i32| {
+        LineSpec::Box(BoxSpec::new([low, -high, 0], [high, -low, 100 * high]))
+    };
+    vec![
+        (
+            vec![classes(0, 255), boxed(1, 4)],
+            vec![line(747, 31), line(778, 31), line(840, 31)],
+        ),
+        (vec![boxed(2, 5), classes(2, 2)], vec![line(778, 31)]),
+        (
+            vec![boxed(5, 5), classes(0, 255), boxed(0, 1)],
+            vec![line(716, 31), line(747, 31), line(871, 31)],
+        ),
+        (vec![boxed(0, 6)], vec![]),
+        (vec![boxed(7, 9), classes(0, 255)], vec![]),
+        (
+            vec![boxed(6, 7), name(b"user", 7), classes(0, 255), boxed(3, 4)],
+            [&of_user()[..], &[line(840, 31)]].concat(),
         ),
     ]
 }
@@ -104,7 +135,7 @@ fn a_file_has_the_lists_that_are_written_here() {
     let spec = file();
     assert_eq!((spec.records_end(), spec.point_offset()), (711, 716));
     let mut compared = Compared::new();
-    for (on_sheet, due) in written() {
+    for (on_sheet, due) in [written(), written_with_boxes()].concat() {
         compared.case(format!("{on_sheet:?}"));
         let sheet = SheetSpec::new(on_sheet);
         let (answer, list) =

@@ -1,6 +1,6 @@
 //! Random files and sheets, with lists and outputs of all telling lengths.
 
-use compare::compared::Compared;
+use compare::compared::{Compared, Function};
 use compare::partly_kept;
 use compare::rng::{Rng, seeds};
 use compare::spec::{FileSpec, SheetSpec};
@@ -10,7 +10,9 @@ use super::table::{Case, list_lengths, rooms};
 /// A file of anything under a random sheet, or one of which a sheet keeps about half.
 fn random_case(rng: &mut Rng) -> Case {
     if rng.chance(50) {
-        Case::new(&FileSpec::random(rng), &SheetSpec::random(rng))
+        let spec = FileSpec::random(rng);
+        let sheet = SheetSpec::random_for(rng, &spec);
+        Case::new(&spec, &sheet)
     } else {
         Case::new(&partly_kept::mixed_file(rng), &partly_kept::sheet())
     }
@@ -67,6 +69,7 @@ fn random_files_and_sheets_give_the_lists_that_are_due_and_the_releases_of_the_f
         for (count, (name, _)) in counts.iter().zip(KINDS) {
             assert!(*count > 100, "{name}: {count} times");
         }
+        compared.assert_boxes_decided(&[Function::CuttingList, Function::ReleaseByList]);
     }
 }
 

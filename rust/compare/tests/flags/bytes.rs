@@ -3,9 +3,9 @@
 use compare::answers::Point;
 use compare::compared::Compared;
 use compare::rng::{Rng, seeds};
-use compare::spec::{CLASSIFICATION, POINT_SIZES};
+use compare::spec::{CLASSIFICATION, LAYOUTS, POINT_SIZES};
 
-use super::table::{LAYOUTS, all_parts, every_byte, parts_of, with_parts};
+use super::table::{all_parts, every_byte, parts_of, with_parts};
 
 #[test]
 fn every_byte_is_read_as_its_parts_and_nothing_else_depends_on_it() {

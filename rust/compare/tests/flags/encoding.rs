@@ -5,9 +5,9 @@ use std::collections::BTreeMap;
 use compare::answers::Point;
 use compare::compared::{Compared, Function};
 use compare::rng::{Rng, seeds};
-use compare::spec::{CLASSIFICATION, POINT_SIZES, as_decoded, random_fields};
+use compare::spec::{CLASSIFICATION, LAYOUTS, POINT_SIZES, as_decoded, random_fields};
 
-use super::table::{LAYOUTS, Parts, all_parts, formats, with_parts};
+use super::table::{Parts, all_parts, formats, with_parts};
 
 /// Every class of one byte with all flags.
 fn classes_with_flags() -> impl Iterator<Item = Parts> {

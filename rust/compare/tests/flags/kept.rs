@@ -4,9 +4,9 @@ use compare::answers::Released;
 use compare::compared::Compared;
 use compare::rng::{FIXED_SEED, Rng, seeds};
 use compare::rooms::{MORE, release};
-use compare::spec::{FileSpec, random_point_of};
+use compare::spec::{FileSpec, LAYOUTS, random_point_of};
 
-use super::table::{LAYOUTS, OnSheet, SHEETS, every_byte, formats};
+use super::table::{OnSheet, SHEETS, every_byte, formats};
 
 /// The same file with only the points that are kept.
 fn kept_alone(spec: &FileSpec, on_sheet: &OnSheet) -> FileSpec {

@@ -3,9 +3,9 @@
 use compare::compared::Compared;
 use compare::damage::{MENDED, POINT_COUNT};
 use compare::rng::{Rng, seeds};
-use compare::spec::{CLASSIFICATION, FileSpec, SheetSpec};
+use compare::spec::{CLASSIFICATION, FileSpec, LAYOUTS, SheetSpec};
 
-use super::table::{LAYOUTS, every_byte};
+use super::table::every_byte;
 
 /// The fields that a mending sets, and a release too.
 fn fields(file: &[u8]) -> [u64; 12] {

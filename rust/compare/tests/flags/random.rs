@@ -8,8 +8,8 @@ use compare::spec::{
 };
 
 /// A sheet that often keeps all classes, or those from one below 31 to one above.
-fn sheet(rng: &mut Rng) -> SheetSpec {
-    let mut sheet = SheetSpec::random(rng);
+fn sheet(rng: &mut Rng, spec: &FileSpec) -> SheetSpec {
+    let mut sheet = SheetSpec::random_for(rng, spec);
     sheet.lines.truncate(63);
     match rng.below(4) {
         0 => sheet.lines.push(LineSpec::Classes(0, 255)),
@@ -22,35 +22,39 @@ fn sheet(rng: &mut Rng) -> SheetSpec {
     sheet
 }
 
-/// A name for what a point is under a sheet, and whether one of this classification byte is it.
-type Kind = (&'static str, fn(&SheetSpec, u8) -> bool);
+/// A name for what a point is under a sheet, and whether this one is it.
+type Kind = (&'static str, fn(&SheetSpec, &[u8]) -> bool);
 
 const KINDS: [Kind; 7] = [
-    ("kept, no flags", |sheet, byte| kept(sheet, byte, 0)),
-    ("kept, synthetic", |sheet, byte| {
-        kept(sheet, byte, SYNTHETIC)
+    ("kept, no flags", |sheet, point| kept(sheet, point, 0)),
+    ("kept, synthetic", |sheet, point| {
+        kept(sheet, point, SYNTHETIC)
     }),
-    ("kept, key point", |sheet, byte| {
-        kept(sheet, byte, KEY_POINT)
+    ("kept, key point", |sheet, point| {
+        kept(sheet, point, KEY_POINT)
     }),
-    ("kept, both", |sheet, byte| {
-        kept(sheet, byte, SYNTHETIC | KEY_POINT)
+    ("kept, both", |sheet, point| {
+        kept(sheet, point, SYNTHETIC | KEY_POINT)
     }),
-    ("withheld, of a kept class", |sheet, byte| {
-        is_withheld(byte) && sheet.keeps_class(class_of(byte))
+    ("withheld, of a kept class", |sheet, point| {
+        is_withheld(point[CLASSIFICATION]) && sheet.keeps_class(class_of(point[CLASSIFICATION]))
     }),
     (
         "not kept, though a line has the whole byte",
-        |sheet, byte| !sheet.keeps_class(class_of(byte)) && sheet.keeps_class(byte),
+        |sheet, point| {
+            let byte = point[CLASSIFICATION];
+            !sheet.keeps_class(class_of(byte)) && sheet.keeps_class(byte)
+        },
     ),
-    ("of another class", |sheet, byte| {
-        !sheet.keeps_class(class_of(byte))
+    ("of another class", |sheet, point| {
+        !sheet.keeps_class(class_of(point[CLASSIFICATION]))
     }),
 ];
 
-/// Whether points of this byte are kept and have just these flags.
-fn kept(sheet: &SheetSpec, byte: u8, flags: u8) -> bool {
-    byte - class_of(byte) == flags && sheet.keeps_class(class_of(byte))
+/// Whether the point is kept and has just these flags.
+fn kept(sheet: &SheetSpec, point: &[u8], flags: u8) -> bool {
+    let byte = point[CLASSIFICATION];
+    byte - class_of(byte) == flags && sheet.keeps_point(point)
 }
 
 /// How often a point of each kind stood in a file.
@@ -59,7 +63,7 @@ type Counts = [u32; KINDS.len()];
 fn count(counts: &mut Counts, spec: &FileSpec, sheet: &SheetSpec) {
     for point in &spec.points {
         for (count, (_, is_it)) in counts.iter_mut().zip(KINDS) {
-            *count += u32::from(is_it(sheet, point[CLASSIFICATION]));
+            *count += u32::from(is_it(sheet, point));
         }
     }
 }
@@ -82,7 +86,8 @@ fn a_released_file_has_no_withheld_point_and_releases_to_itself() {
         let (mut rng, mut compared) = (Rng::new(seed), Compared::new());
         let mut counts = Counts::default();
         for round in 0..4000 {
-            let (spec, sheet) = (FileSpec::random(&mut rng), sheet(&mut rng));
+            let spec = FileSpec::random(&mut rng);
+            let sheet = sheet(&mut rng, &spec);
             let sheet_bytes = sheet.bytes();
             compared.case(format!("seed {seed}, file {round}"));
             let answers = release(&mut compared, &mut rng, &spec.bytes(), &sheet_bytes);

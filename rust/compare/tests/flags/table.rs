@@ -6,18 +6,6 @@ use compare::spec::{
     FileSpec, LineSpec, POINT_SIZES, RecordSpec, SheetSpec, padded, projection, random_point_of,
 };
 
-/// Formats, each without and with extra bytes.
-pub const LAYOUTS: [(u8, u16); 8] = [
-    (0, 0),
-    (0, 1),
-    (1, 0),
-    (1, 7),
-    (2, 0),
-    (2, 6),
-    (3, 0),
-    (3, 13),
-];
-
 /// Formats with their sizes.
 pub fn formats() -> impl Iterator<Item = (u8, u16)> {
     (0..).zip(POINT_SIZES)

@@ -4,8 +4,8 @@ use compare::compared::Compared;
 use compare::rng::{Rng, seeds};
 use compare::rooms::release;
 use compare::spec::{
-    CLASSIFICATION, FileSpec, KEY_POINT, LineSpec, SYNTHETIC, SheetSpec, WITHHELD, is_withheld,
-    random_classification, random_point_of,
+    BoxSpec, CLASSIFICATION, FileSpec, KEY_POINT, LineSpec, SYNTHETIC, SheetSpec, WITHHELD,
+    is_withheld, random_classification, random_point_of,
 };
 
 /// A change of a file's withheld points, of which it has one at least.
@@ -88,11 +88,14 @@ fn file(rng: &mut Rng) -> FileSpec {
     spec
 }
 
-/// Sheets that keep points: all that are not withheld, or some of them.
+/// Sheets that keep points: all that are not withheld, or some of them. Where there are boxes, one holds every point.
 fn sheets(rng: &mut Rng) -> [SheetSpec; 3] {
     let mut random = SheetSpec::random(rng);
-    random.lines.truncate(63);
+    random.lines.truncate(62);
     random.lines.push(LineSpec::Classes(2, 2));
+    if random.has_boxes() {
+        random.lines.push(LineSpec::Box(BoxSpec::WHOLE));
+    }
     let lines = [LineSpec::Classes(2, 2), LineSpec::Classes(20, 200)];
     [SheetSpec::all_classes(), SheetSpec::new(lines), random]
 }
