@@ -14,7 +14,10 @@ returns c =
     let same = kept-by-table (now (a .table)) (now (a .boxes)) (a .format) (a .n) (a .record-length) (now (a .block)) (sym (taken .before .no-box .ensures) ∙ taken .if1 .taken) in
     (e .0, e .1 ∙ same, e .2)
 
+returns-2 : tie.Need-returns-2
+returns-2 c = c .before .before .choose-by-both .ensures
+
 pub choose-spec : {M : Type 1} → statement M
 choose-spec =
     tie.close
-    (tie.spec (λ c κs. tt) (λ c κs. search needs) (λ c. search needs) returns (λ c κs. search needs) (λ c. search needs) (λ c. search needs))
+    (tie.spec (λ c κs. tt) (λ c κs. search needs) (λ c. search needs) returns (λ c κs. search needs) (λ c. search needs) returns-2)

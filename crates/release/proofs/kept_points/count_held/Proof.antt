@@ -12,5 +12,8 @@ returns c =
     c .count-run .ensures
     ∙ ap length (kept-by-table (now (a .table)) (now (a .boxes)) (a .format) (a .count) (a .record-length) (now (a .run)) (sym (c .before .before .no-box .ensures) ∙ c .before .if1 .taken))
 
+returns-2 : tie.Need-returns-2
+returns-2 c = c .count-blocks .ensures
+
 pub count-held-spec : {M : Type 1} → statement M
-count-held-spec = tie.close (tie.spec (λ c κs. tt) (λ c κs. c .before .before .before .pre) returns (λ c κs. c .before .before .before .pre) (λ c. c .count-blocks .ensures))
+count-held-spec = tie.close (tie.spec (λ c κs. tt) (λ c κs. c .before .before .before .pre) returns (λ c κs. c .before .before .before .pre) returns-2)
