@@ -7,6 +7,7 @@ mod boxes {
     mod extremes;
     mod faults;
     mod inside;
+    mod lengths;
     mod lines;
     mod many;
     mod outside;
