@@ -219,12 +219,16 @@ patch 131 '\0\0\0\0\0\0\0\0'
 refuses 10 "a scale is not from 2^-40 to 2^20, or an offset not from -2^40 to 2^40"
 sheet 'KT\1'
 refuses 20 "a line of the sheet does not begin with 4B 53"
-sheet 'KS\3'
-refuses 21 "a line's kind is neither 1 nor 2"
+sheet 'KS\4'
+refuses 21 "a line's kind is not 1, 2 or 3"
 sheet 'KS\1\2'
 refuses 22 "a line is cut short"
+sheet 'KS\3'
+refuses 22 "a line is cut short"
 sheet 'KS\1\3\2'
-refuses 23 "a line's lowest class is above its highest"
+refuses 23 "a line's lowest class is above its highest, or a low value of a box above its high one"
+sheet "KS\\3\\1$(printf '\\0%.0s' {1..23})"
+refuses 23 "a line's lowest class is above its highest, or a low value of a box above its high one"
 sheet "$(printf 'KS\\1\\2\\2%.0s' {1..65})"
 refuses 24 "the sheet has more than 64 lines"
 sheet '' && head -c 32769 /dev/zero >bad/in.las

@@ -52,7 +52,7 @@ pub const BAD_KIND: u64 = 21;
 // A line is cut.
 pub const LINE_CUT: u64 = 22;
 
-// A line's lowest class is above its highest.
+// A line's lowest class is above its highest, or a box's low above its high.
 pub const LOW_ABOVE_HIGH: u64 = 23;
 
 // A 65th line begins.
