@@ -12,7 +12,7 @@ pub(crate) const RETURNS: usize = 14;
 pub(crate) const CLASSIFICATION: usize = 15;
 
 // The size of the shortest format's records, and a number of records that no LAS 1.2 header can count.
-pub(crate) const SHORTEST: usize = 20;
+pub const SHORTEST: usize = 20;
 
 const TOO_MANY: usize = 4294967296;
 

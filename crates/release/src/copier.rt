@@ -7,7 +7,9 @@ ghost use lib.Seq.{sets};
 ghost use Rattle.fields.specs.Bytes.{join, zeros};
 ghost use Rattle.sheet.specs.Boxes.{keepsBy};
 ghost use Rattle.tally.specs.Tally.{tallyOf};
+ghost use Rattle.release.specs.BoxIndex.{Covers};
 ghost use Rattle.release.specs.KeptPoints.{keptPoints, keptOf, picked, Places};
+use crate::box_index;
 use crate::kept_points;
 use fields::copying;
 use fields::numbers;
@@ -45,12 +47,15 @@ fn copy_block(
     n: usize,
     table: &[bool; 256],
     boxes: &[i32; 385],
+    index: &[u64; 198],
     chosen: &mut [usize],
     out: &mut [u8],
 ) -> usize
     requires { ⌜ (n ≤ 96)
         × (n ≤ length (now chosen))
         × (n * «record_length» ≤ length (now block))
+        × (20 ≤ «record_length»)
+        × Covers (now boxes) (now index)
         × (length (keptOf (keepsBy (now table) (now boxes) format)
         n «record_length» (now block)) * «record_length» ≤ length (now out)) ⌝ }
     ensures { λ r. ⌜
@@ -61,7 +66,7 @@ fn copy_block(
         (join (keptOf (keepsBy (now (table .entry)) (now (boxes .entry)) format)
         n «record_length» (now (block .entry))))) ⌝ }
 {
-    let k = kept_points::choose(block, format, record_length, n, table, boxes, chosen);
+    let k = kept_points::choose(block, format, record_length, n, table, boxes, index, chosen);
     if k == n {
         let end = n * record_length;
         copying::copy_whole(&block[..end], out, 0);
@@ -95,6 +100,7 @@ fn copy_run(
         (join (keptOf (keepsBy (now (table .entry)) (now (boxes .entry)) format)
         count «record_length» (now (run .entry))))) ⌝ }
 {
+    let index = box_index::index_of(boxes);
     let mut chosen = [0usize; kept_points::BLOCK];
     let mut t = tally::fresh();
     let mut at = 0;
@@ -110,6 +116,7 @@ fn copy_run(
             n,
             table,
             boxes,
+            &index,
             &mut chosen,
             &mut out[to..],
         );

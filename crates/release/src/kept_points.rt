@@ -2,12 +2,14 @@
 // No loop over points branches on whether one is kept, since no processor can guess which way it goes.
 ghost use mathlib.Core.Path.{_≡_};
 ghost use mathlib.Core.Bool.{cond};
-ghost use Prim.Native.Nat.{_*_, _≤_};
+ghost use Prim.Native.Nat.{_*_, _≤_, _<_};
 ghost use lib.ListN.{length, take};
 ghost use Rattle.fields.specs.Lists.{kept};
 ghost use Rattle.sheet.specs.Keeping.{inTable};
-ghost use Rattle.sheet.specs.Boxes.{inBoxes, keepsBy};
+ghost use Rattle.sheet.specs.Boxes.{boxCount, inBoxes, keepsBy};
+ghost use Rattle.release.specs.BoxIndex.{Covers};
 ghost use Rattle.release.specs.KeptPoints.{keptPoints, keptOf, picked, Places};
+use crate::box_index;
 use fields::numbers;
 use points::raw;
 use sheet::boxes;
@@ -54,30 +56,40 @@ fn choose_by_table(
 }
 
 // Leaves of the first k chosen places those whose records lie in a box, in order at the front, and says how many they
-// are. Each place is put behind those that stay, and stays there only where its record lies in one.
+// are. Each place is put behind those that stay, and stays there only where its record lies in one. No record is
+// shorter than 20 bytes; that is asked so that the compiler knows it, and makes no code for stored values cut short.
 fn choose_in_boxes(
     block: &[u8],
     record_length: usize,
     boxes: &[i32; 385],
+    index: &[u64; 198],
     k: usize,
     chosen: &mut [usize],
 ) -> usize
     requires { ⌜ (k ≤ 96)
         × (k ≤ length (now chosen))
-        × Places «record_length» (now block) (take k (now chosen)) ⌝ }
+        × Places «record_length» (now block) (take k (now chosen))
+        × (20 ≤ «record_length»)
+        × (0 < boxCount (now boxes))
+        × Covers (now boxes) (now index) ⌝ }
     ensures { λ r. ⌜ (r ≤ k)
         × (picked «record_length» (now (block .entry)) (take r (now (chosen .exit)))
         ≡ kept (inBoxes (now (boxes .entry)))
         (picked «record_length» (now (block .entry)) (take k (now (chosen .entry)))))
         × Places «record_length» (now (block .entry)) (take r (now (chosen .exit))) ⌝ }
 {
+    if record_length < raw::SHORTEST {
+        return 0;
+    }
+    let n = boxes::count(boxes);
     let mut m = 0;
     let mut j = 0;
     while j < k {
         let at = chosen[j];
         let end = at + record_length;
         chosen[m] = at;
-        m += one_if(boxes::in_boxes(boxes, &block[at..end]));
+        let p = raw::stored_of(&block[at..end]);
+        m += one_if(box_index::in_boxes(boxes, n, index, p));
         j += 1;
     }
     m
@@ -92,10 +104,15 @@ fn choose_by_both(
     n: usize,
     table: &[bool; 256],
     boxes: &[i32; 385],
+    index: &[u64; 198],
     chosen: &mut [usize],
 ) -> usize
-    requires { ⌜
-        (n ≤ 96) × (n ≤ length (now chosen)) × (n * «record_length» ≤ length (now block)) ⌝ }
+    requires { ⌜ (n ≤ 96)
+        × (n ≤ length (now chosen))
+        × (n * «record_length» ≤ length (now block))
+        × (20 ≤ «record_length»)
+        × (0 < boxCount (now boxes))
+        × Covers (now boxes) (now index) ⌝ }
     ensures { λ r. ⌜ (r ≤ n)
         × (picked «record_length» (now (block .entry)) (take r (now (chosen .exit)))
         ≡ keptOf (keepsBy (now (table .entry)) (now (boxes .entry)) format) n «record_length»
@@ -103,7 +120,7 @@ fn choose_by_both(
         × Places «record_length» (now (block .entry)) (take r (now (chosen .exit))) ⌝ }
 {
     let k = choose_by_table(block, format, record_length, n, table, chosen);
-    choose_in_boxes(block, record_length, boxes, k, chosen)
+    choose_in_boxes(block, record_length, boxes, index, k, chosen)
 }
 
 // The same. Where there is no box, none is asked.
@@ -114,10 +131,14 @@ pub(crate) fn choose(
     n: usize,
     table: &[bool; 256],
     boxes: &[i32; 385],
+    index: &[u64; 198],
     chosen: &mut [usize],
 ) -> usize
-    requires { ⌜
-        (n ≤ 96) × (n ≤ length (now chosen)) × (n * «record_length» ≤ length (now block)) ⌝ }
+    requires { ⌜ (n ≤ 96)
+        × (n ≤ length (now chosen))
+        × (n * «record_length» ≤ length (now block))
+        × (20 ≤ «record_length»)
+        × Covers (now boxes) (now index) ⌝ }
     ensures { λ r. ⌜ (r ≤ n)
         × (picked «record_length» (now (block .entry)) (take r (now (chosen .exit)))
         ≡ keptOf (keepsBy (now (table .entry)) (now (boxes .entry)) format) n «record_length»
@@ -127,7 +148,7 @@ pub(crate) fn choose(
     if boxes::no_box(boxes) {
         return choose_by_table(block, format, record_length, n, table, chosen);
     }
-    choose_by_both(block, format, record_length, n, table, boxes, chosen)
+    choose_by_both(block, format, record_length, n, table, boxes, index, chosen)
 }
 
 // Counts the points that the table keeps of a run that holds them all.
@@ -163,11 +184,14 @@ fn count_blocks(
     table: &[bool; 256],
     boxes: &[i32; 385],
 ) -> usize
-    requires { ⌜ count * «record_length» ≤ length (now run) ⌝ }
+    requires { ⌜ (count * «record_length» ≤ length (now run))
+        × (20 ≤ «record_length»)
+        × (0 < boxCount (now boxes)) ⌝ }
     ensures { λ r. ⌜ r
         ≡ length (keptOf (keepsBy (now (table .entry)) (now (boxes .entry)) format) count «record_length»
         (now (run .entry))) ⌝ }
 {
+    let index = box_index::index_of(boxes);
     let mut chosen = [0usize; BLOCK];
     let mut at = 0;
     let mut n = 0;
@@ -182,6 +206,7 @@ fn count_blocks(
             m,
             table,
             boxes,
+            &index,
             &mut chosen,
         );
         at = next;
@@ -199,7 +224,7 @@ fn count_held(
     table: &[bool; 256],
     boxes: &[i32; 385],
 ) -> usize
-    requires { ⌜ count * «record_length» ≤ length (now run) ⌝ }
+    requires { ⌜ (count * «record_length» ≤ length (now run)) × (20 ≤ «record_length») ⌝ }
     ensures { λ r. ⌜ r
         ≡ length (keptOf (keepsBy (now (table .entry)) (now (boxes .entry)) format) count «record_length»
         (now (run .entry))) ⌝ }

@@ -11,6 +11,7 @@ use lib.Signed.{leZ}
 use Rattle.fields.specs.Lists.{consIf, kept}
 use Rattle.fields.specs.Bytes.{Bytes}
 use Rattle.points.specs.Raw.{stored}
+use Rattle.points.specs.declared.raw.Stored.{Stored}
 use Rattle.sheet.specs.Sheet.{edge, onEveryAxis, lines}
 use Rattle.sheet.specs.Keeping.{isBox, inTable}
 
@@ -62,9 +63,19 @@ unfoldable pub inFirst : List ℤ → ℕ → (ℕ → ℤ) → Bool
 inFirst ns zero at = false
 inFirst ns (suc n) at = inFirst ns n at || inBoxAt ns n at
 
--- a point by its bytes: in one of them, where there are any
+-- in one of them, where there are any
+unfoldable pub inAny : List ℤ → (ℕ → ℤ) → Bool
+inAny ns at = eqb (boxCount ns) 0 || inFirst ns (boxCount ns) at
+
+-- the stored values of a point, by their axis
+unfoldable pub along : Stored → ℕ → ℤ
+along p zero = p .x
+along p (suc zero) = p .y
+along p (suc (suc n)) = p .z
+
+-- a point by its bytes
 unfoldable pub inBoxes : List ℤ → Bytes → Bool
-inBoxes ns p = eqb (boxCount ns) 0 || inFirst ns (boxCount ns) (λ axis. stored axis p)
+inBoxes ns p = inAny ns (λ axis. stored axis p)
 
 -- whether a table and boxes keep a point, by its format and bytes
 unfoldable pub keepsBy : List Bool → List ℤ → ℕ → Bytes → Bool
@@ -81,10 +92,3 @@ abbrev pub TakesLine : Bytes → ℕ → List ℤ → ℕ → List ℤ → Type 
 TakesLine l n ns m after =
     (bs : List Bytes) → length bs ≡ n → Numbered bs ns
     → Numbered (bs ++ consIf (isBox l) l []) after × (m ≡ length (bs ++ consIf (isBox l) l []))
-
--- whether stored values x, y and z lie in box j, or in one of the first n
-abbrev pub InBox : List ℤ → ℕ → ℤ → ℤ → ℤ → Bool → Type 0
-InBox ns j x y z r = (at : ℕ → ℤ) → at 0 ≡ x → at 1 ≡ y → at 2 ≡ z → r ≡ inBoxAt ns j at
-
-abbrev pub InFirst : List ℤ → ℕ → ℤ → ℤ → ℤ → Bool → Type 0
-InFirst ns n x y z r = (at : ℕ → ℤ) → at 0 ≡ x → at 1 ≡ y → at 2 ≡ z → r ≡ inFirst ns n at

@@ -4,10 +4,11 @@
 // turned, -1 - z, so that all six tests of a box are of one kind: its number is at most that of the point.
 ghost use mathlib.Core.Path.{_≡_};
 ghost use Prim.Native.Nat.{_≤_, _<_};
-ghost use lib.Dec.{eqb};
+ghost use mathlib.Core.Bool.{_&&_};
+ghost use lib.Dec.{eqb, ltb};
 ghost use lib.ListN.{length};
 ghost use Rattle.sheet.specs.Keeping.{isBox};
-ghost use Rattle.sheet.specs.Boxes.{turned, bound, BoxesOf, PutBox, TakesLine, boxCount, inAxis, InBox, InFirst, inBoxes, keepsBy};
+ghost use Rattle.sheet.specs.Boxes.{turned, bound, BoxesOf, PutBox, TakesLine, boxCount, inAxis, along, inBoxAt, inFirst, inAny, inBoxes, keepsBy};
 use crate::class_table;
 use points::raw;
 
@@ -20,7 +21,7 @@ fn is_box(line: &[u8]) -> bool
     fields::numbers::u8_at(line, crate::KIND) == crate::BOX
 }
 
-fn turned(z: i32) -> i32
+pub fn turned(z: i32) -> i32
     ensures { λ r. ⌜ r ≡ turned z ⌝ }
 {
     -1 - z
@@ -80,7 +81,7 @@ pub fn boxes_of(sheet: &[u8]) -> [i32; 385]
 }
 
 // How many boxes numbers are of, from 0 to 64.
-fn count(boxes: &[i32; 385]) -> usize
+pub fn count(boxes: &[i32; 385]) -> usize
     ensures { λ r. ⌜ (r ≡ boxCount (now (boxes .entry))) × (r ≤ 64) ⌝ }
 {
     let n = boxes[COUNT];
@@ -107,37 +108,45 @@ fn in_axis(boxes: &[i32; 385], axis: usize, j: usize, z: i32) -> bool
     (low <= z) & (high <= turned(z))
 }
 
-// Whether stored values lie in box j.
-fn in_box(boxes: &[i32; 385], j: usize, x: i32, y: i32, z: i32) -> bool
-    requires { ⌜ j < 64 ⌝ }
-    ensures { λ r. ⌜ InBox (now (boxes .entry)) j x y z r ⌝ }
+// Whether stored values lie in box j of the 64 that there is room for.
+pub fn in_box(boxes: &[i32; 385], j: usize, p: raw::Stored) -> bool
+    ensures { λ r. ⌜ r ≡ (ltb j 64 && inBoxAt (now (boxes .entry)) j (along p)) ⌝ }
 {
-    in_axis(boxes, 0, j, x) & (in_axis(boxes, 1, j, y) & in_axis(boxes, 2, j, z))
+    if 64 <= j {
+        return false;
+    }
+    in_axis(boxes, 0, j, p.x) & (in_axis(boxes, 1, j, p.y) & in_axis(boxes, 2, j, p.z))
 }
 
 // Whether they lie in one of the first n boxes. All are looked at, with no branch, so that the compiler looks at
 // several at once.
-fn in_first(boxes: &[i32; 385], n: usize, x: i32, y: i32, z: i32) -> bool
+fn in_first(boxes: &[i32; 385], n: usize, p: raw::Stored) -> bool
     requires { ⌜ n ≤ 64 ⌝ }
-    ensures { λ r. ⌜ InFirst (now (boxes .entry)) n x y z r ⌝ }
+    ensures { λ r. ⌜ r ≡ inFirst (now (boxes .entry)) n (along p) ⌝ }
 {
     let mut found = false;
     let mut j = 0;
     while j < n {
-        let inside = in_box(boxes, j, x, y, z);
+        let inside = in_box(boxes, j, p);
         found = found | inside;
         j += 1;
     }
     found
 }
 
-// Whether a point lies in one of the boxes, where there are any.
+// Whether they lie in one of the boxes, where there are any.
+pub fn in_any(boxes: &[i32; 385], p: raw::Stored) -> bool
+    ensures { λ r. ⌜ r ≡ inAny (now (boxes .entry)) (along p) ⌝ }
+{
+    let n = count(boxes);
+    (n == 0) | in_first(boxes, n, p)
+}
+
+// Whether a point does, by its bytes.
 pub fn in_boxes(boxes: &[i32; 385], point: &[u8]) -> bool
     ensures { λ r. ⌜ r ≡ inBoxes (now (boxes .entry)) (now (point .entry)) ⌝ }
 {
-    let n = count(boxes);
-    let p = raw::stored_of(point);
-    (n == 0) | in_first(boxes, n, p.x, p.y, p.z)
+    in_any(boxes, raw::stored_of(point))
 }
 
 // Whether a table and boxes keep a point. Boxes are asked only where the table keeps it.

@@ -12,7 +12,7 @@ use Rattle.fields.specs.Bytes.{Bytes, join, pieces}
 use Rattle.fields.proofs.ByteLaws.{pieces-width, length-join-pieces}
 use Rattle.fields.proofs.ListLaws.{All-kept, kept-same, all-of}
 use Rattle.sheet.specs.Keeping.{inTable}
-use Rattle.sheet.specs.Boxes.{boxCount, inBoxes, keepsBy}
+use Rattle.sheet.specs.Boxes.{boxCount, inAny, inBoxes, keepsBy}
 use Rattle.points.specs.Raw.{inRun}
 use Rattle.points.proofs.raw.RunLaws.{InRun, in-run, points-held, points-none}
 use Rattle.release.specs.KeptPoints.{keptPoints, keptOf}
@@ -41,7 +41,7 @@ length-kept-points keep count len run =
 -- ---- with no box the table decides
 
 by-table : (table : List Bool) (boxes : List ℤ) (f : ℕ) → eqb (boxCount boxes) 0 ≡ true → (p : Bytes) → inTable table f p ≡ keepsBy table boxes f p
-unfolding keepsBy inBoxes
+unfolding keepsBy inBoxes inAny
 by-table table boxes f none p = rw none (sym (and-true (inTable table f p)))
 
 pub kept-by-table : (table : List Bool) (boxes : List ℤ) (f n w : ℕ) (s : Bytes) → eqb (boxCount boxes) 0 ≡ true

@@ -5,7 +5,7 @@ use mathlib.Core.Path.{_≡_, refl, sym, ap, _∙_}
 use Prim.Native.Nat.{ℕ, zero, suc, _+_, _*_, _≤_, _<_}
 use native.Mathlib.Omega.{arith}
 use borrow.Author.Tests.{ltb-false}
-use mathlib.Core.Bool.{Bool, true, false, cond, not, _&&_}
+use mathlib.Core.Bool.{Bool, true, false, cond, not, _&&_, _||_}
 use mathlib.Core.List.{List, [], _∷_, map}
 use lib.ListN.{length, getD, take}
 use lib.Seq.{take-all}
@@ -15,10 +15,10 @@ use lib.Signed.{leZ}
 use Rattle.fields.specs.Lists.{anyOf}
 use Rattle.fields.specs.Bytes.{Bytes, AllBytes}
 use Rattle.fields.proofs.ListLaws.{length-kept, some-kept, some-counted, some-take}
-use Rattle.points.specs.Raw.{stored}
+use Rattle.points.specs.Raw.{stored, storedOf}
 use Rattle.sheet.specs.Sheet.{edge, low, high, onEveryAxis, lines}
 use Rattle.sheet.specs.Keeping.{inRange, isBox, inBox, containsPoint, hasBox, keepsPlace, keepsPoint, TableOf, inTable}
-use Rattle.sheet.specs.Boxes.{boxLines, turned, bound, Numbered, BoxesOf, upTo64, boxCount, inAxis, inBoxAt, inFirst, inBoxes, keepsBy}
+use Rattle.sheet.specs.Boxes.{boxLines, turned, bound, Numbered, BoxesOf, upTo64, boxCount, inAxis, inBoxAt, inFirst, inAny, along, inBoxes, keepsBy}
 use Rattle.sheet.proofs.LineLaws.{at-most-64}
 use Rattle.sheet.proofs.class_table.ClassLaws.{table-keeps}
 
@@ -38,8 +38,18 @@ count-is sheet ns h = rw (h .1) (few (length (boxLines sheet)) (ltb (length (box
 
 -- ---- a point in them
 
+first-by-bytes : (ns : List ℤ) (p : Bytes) (n : ℕ) → inFirst ns n (along (storedOf p)) ≡ inFirst ns n (λ axis. stored axis p)
+unfolding inFirst inBoxAt onEveryAxis along storedOf
+first-by-bytes ns p zero = refl
+first-by-bytes ns p (suc n) = rw (first-by-bytes ns p n)
+
+-- by its bytes, or by the stored values that are read from them
+pub by-bytes : (ns : List ℤ) (p : Bytes) → inAny ns (along (storedOf p)) ≡ inBoxes ns p
+unfolding inBoxes inAny
+by-bytes ns p = ap (λ (b : Bool). eqb (boxCount ns) 0 || b) (first-by-bytes ns p (boxCount ns))
+
 -- a high that is turned is at most a point's number exactly if the point's is at most the high
-turned-le : (a b : ℤ) → leZ (turned a) (turned b) ≡ leZ b a
+pub turned-le : (a b : ℤ) → leZ (turned a) (turned b) ≡ leZ b a
 unfolding turned
 turned-le (pos a) (pos b) = refl
 turned-le (pos a) (negsuc b) = refl
@@ -95,7 +105,7 @@ not-not true = refl
 not-not false = refl
 
 pub boxes-keep : (sheet : Bytes) (ns : List ℤ) → BoxesOf sheet ns → (p : Bytes) → inBoxes ns p ≡ keepsPlace sheet p
-unfolding inBoxes keepsPlace
+unfolding inBoxes inAny keepsPlace
 boxes-keep sheet ns h p =
     let bs = boxLines sheet in
     let all : inFirst ns (length bs) (λ axis. stored axis p) ≡ anyOf (λ l. inBox l p) bs =

@@ -35,15 +35,15 @@ counted : (c : tie.After-choose)
 counted c =
     let s = c .before .before .before .before .before in
     let call = c .choose in
-    chosen-count (s .args .record-length) (now (s .args .block)) _ (call .result) _ (omega (arith, call .ensures .0, call .kept .1 .1 .1 .1 .1 .1 .0, s .pre .1)) (call .ensures .1)
+    chosen-count (s .args .record-length) (now (s .args .block)) _ (call .result) _ (omega (arith, call .ensures .0, call .kept .1 .1 .1 .1 .1 .1 .1 .0, s .pre .1)) (call .ensures .1)
 
 copy-chosen-requires : tie.Need-copy-chosen-requires
 copy-chosen-requires c κs =
     let s = c .before .before .before .before .before .before .before .before .before .before in
     let call = c .before .before .before .before .before .choose in
-    let size = call .kept .1 .1 .1 .1 .1 .1 .0 in
+    let size = call .kept .1 .1 .1 .1 .1 .1 .1 .0 in
     let few = call .ensures .0 in
-    (omega (arith, few, s .pre .0), omega (arith, few, size, s .pre .1), call .ensures .2, rw (counted (c .before .before .before .before .before)) (s .pre .3))
+    (omega (arith, few, s .pre .0), omega (arith, few, size, s .pre .1), call .ensures .2, rw (counted (c .before .before .before .before .before)) (s .pre .5))
 
 same-length : tie.Need-same-length
 same-length c = search needs
@@ -60,7 +60,7 @@ returns c =
     let all : call .result ≡ a .n = omega arith in
     let whole = whole-block (keepsBy (now (a .table)) (now (a .boxes)) (a .format)) (a .n) (a .record-length) (now (a .block)) (sym all ∙ count) in
     let long = length-take-le (a .n * a .record-length) (now (a .block)) (s .pre .2) in
-    let room : 0 + length (take (a .n * a .record-length) (now (a .block))) ≤ length (now (a .out)) = rw long (omega (arith, rw (← count, all) at (s .pre .3))) in
+    let room : 0 + length (take (a .n * a .record-length) (now (a .block))) ≤ length (now (a .out)) = rw long (omega (arith, rw (← count, all) at (s .pre .5))) in
     (count, stored-whole (now (a .out)) 0 (take (a .n * a .record-length) (now (a .block))) _ (c .before .before .copy-whole .ensures) room ∙ ap (λ (x : Bytes). sets (now (a .out)) 0 x) whole)
 
 same-length-3 : tie.Need-same-length-3

@@ -15,8 +15,14 @@ choose-in-boxes-requires : tie.Need-choose-in-boxes-requires
 choose-in-boxes-requires c κs =
     let k = c .before .before .before in
     let s = k .before .before .before .before in
-    let call = k .choose-by-table in
-    (omega (arith, call .ensures .0, s .pre .0), omega (arith, call .ensures .0, call .kept .1 .1 .1 .1 .1 .0, s .pre .1), call .ensures .2)
+    let call = k .choose-by-table in (
+      omega (arith, call .ensures .0, s .pre .0),
+      omega (arith, call .ensures .0, call .kept .1 .1 .1 .1 .1 .0, s .pre .1),
+      call .ensures .2,
+      s .pre .3,
+      s .pre .4,
+      s .pre .5,
+    )
 
 returns : tie.Need-returns
 returns c =

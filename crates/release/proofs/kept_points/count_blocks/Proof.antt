@@ -15,21 +15,21 @@ use Rattle.release.proofs.kept_points.count_blocks.Statement.{statement
 use Rattle.release.proofs.kept_points.count_blocks.Tie as tie
 
 abbrev Inv-loop : tie.InvT-loop
-Inv-loop run format record-length count table boxes chosen₀ at₀ n₀ left₀ chosen at n left =
+Inv-loop run format record-length count table boxes index chosen₀ at₀ n₀ left₀ chosen at n left =
     Counted (keepsBy table boxes format) record-length count run left at n × (length chosen ≡ 96)
 
 abbrev μ-loop : tie.MeasureT-loop
-μ-loop run format record-length count table boxes chosen₀ at₀ n₀ left₀ chosen at n left = left
+μ-loop run format record-length count table boxes index chosen₀ at₀ n₀ left₀ chosen at n left = left
 
 loop-holds : tie.Need-loop-holds Inv-loop μ-loop
-loop-holds c = (count-begun _ _ _ _ (c .before .pre), refl)
+loop-holds c = (count-begun _ _ _ _ (c .before .before .pre .0), refl)
 
 -- in a turn the block is of some of the records that are left
 some : (c : tie.After-least Inv-loop μ-loop) → (0 < c .least .result) × (c .least .result ≤ c .before .before .loop .left) × (c .least .result ≤ 96)
 some c = omega (arith, c .least .ensures, c .before .loop-test .taken)
 
 -- it lies in the run
-inside : (c : tie.After-least Inv-loop μ-loop) → c .before .before .loop .at + c .least .result * c .before .before .before .before .args .record-length ≤ length (now (c .before .before .before .before .args .run))
+inside : (c : tie.After-least Inv-loop μ-loop) → c .before .before .loop .at + c .least .result * c .before .before .before .before .before .args .record-length ≤ length (now (c .before .before .before .before .before .args .run))
 inside c =
     let l = c .before .before .loop in
     block-in _ _ _ _ _ (l .left) (l .at) (l .inv .0 .looked) (c .least .result) (some c .1)
@@ -50,49 +50,50 @@ part-choose-by-both-end : tie.Need-part-choose-by-both-end Inv-loop μ-loop
 part-choose-by-both-end c = omega (arith, inside c)
 
 slice-aggregate-choose-by-both : tie.Need-slice-aggregate-choose-by-both Inv-loop μ-loop
-slice-aggregate-choose-by-both c = sym (c .before .before .before .before .loop .inv .1)
+slice-aggregate-choose-by-both c = sym (c .before .before .before .before .before .loop .inv .1)
 
 choose-by-both-requires : tie.Need-choose-by-both-requires Inv-loop μ-loop
 choose-by-both-requires c κs =
-    let turn = c .before .before in
-    let a = turn .before .before .before .before .args in
+    let turn = c .before .before .before in
+    let s = turn .before .before .before .before .before in
+    let a = s .args in
     let l = turn .before .before .loop in
     let n = turn .least .result in
     let few = some turn in
     let long : length (part (l .at) (n * a .record-length) (now (a .run))) ≡ n * a .record-length = length-part (l .at) (n * a .record-length) (now (a .run)) (inside turn) in
     rw (lent-record (l .at) (n * a .record-length) (now (a .run)))
-    (few .2, omega (arith, few, l .inv .1), omega (arith, long))
+    (few .2, omega (arith, few, l .inv .1), omega (arith, long), s .pre .1, s .pre .2, turn .before .before .before .index-of .ensures)
 
 -- as many are counted as are kept of the block
-counted : (d : tie.After-chosen2 Inv-loop μ-loop) → d .before .choose-by-both .result ≡ length (keptOf (keepsBy (now (d .before .before .before .before .before .before .before .before .args .table)) (now (d .before .before .before .before .before .before .before .before .args .boxes)) (d .before .before .before .before .before .before .before .before .args .format)) (d .before .before .before .before .least .result) (d .before .before .before .before .before .before .before .before .args .record-length) (part (d .before .before .before .before .before .before .loop .at) (d .before .before .before .before .least .result * d .before .before .before .before .before .before .before .before .args .record-length) (now (d .before .before .before .before .before .before .before .before .args .run))))
+counted : (d : tie.After-chosen2 Inv-loop μ-loop) → d .before .choose-by-both .result ≡ length (keptOf (keepsBy (now (d .before .before .before .before .before .before .before .before .before .before .args .table)) (now (d .before .before .before .before .before .before .before .before .before .before .args .boxes)) (d .before .before .before .before .before .before .before .before .before .before .args .format)) (d .before .before .before .before .before .least .result) (d .before .before .before .before .before .before .before .before .before .before .args .record-length) (part (d .before .before .before .before .before .before .before .loop .at) (d .before .before .before .before .before .least .result * d .before .before .before .before .before .before .before .before .before .before .args .record-length) (now (d .before .before .before .before .before .before .before .before .before .before .args .run))))
 counted d =
-    let turn = d .before .before .before .before in
-    let a = turn .before .before .before .before .args in
+    let turn = d .before .before .before .before .before in
+    let a = turn .before .before .before .before .before .args in
     let l = turn .before .before .loop in
     let n = turn .least .result in
     let call = d .before .choose-by-both in
     let few = some turn in
-    chosen-count _ _ _ _ _ (omega (arith, call .ensures .0, few, l .inv .1, call .kept .1 .1 .1 .1 .1 .1 .0)) (call .ensures .1)
+    chosen-count _ _ _ _ _ (omega (arith, call .ensures .0, few, l .inv .1, call .kept .1 .1 .1 .1 .1 .1 .1 .0)) (call .ensures .1)
     ∙ ap (λ (x : Bytes). length (keptOf (keepsBy (now (a .table)) (now (a .boxes)) (a .format)) n (a .record-length) x)) (lent-record (l .at) (n * a .record-length) (now (a .run)))
 
 add-n : tie.Need-add-n Inv-loop μ-loop
 add-n c =
-    let turn = c .before .before .before .before in
+    let turn = c .before .before .before .before .before in
     let l = turn .before .before .loop in
     omega (arith, l .inv .0 .few, c .before .choose-by-both .ensures .0, some turn)
 
 sub-left : tie.Need-sub-left Inv-loop μ-loop
-sub-left c = some (c .before .before .before .before) .1
+sub-left c = some (c .before .before .before .before .before) .1
 
 loop-less : tie.Need-loop-less Inv-loop μ-loop
-loop-less c = let few = some (c .before .before .before .before) in omega (arith, few .0, few .1)
+loop-less c = let few = some (c .before .before .before .before .before) in omega (arith, few .0, few .1)
 
 loop-again : tie.Need-loop-again Inv-loop μ-loop
 loop-again c =
-    let turn = c .before .before .before .before in
+    let turn = c .before .before .before .before .before in
     let l = turn .before .before .loop in (
       count-block _ _ _ _ (l .left) (l .at) (l .n) (l .inv .0) (turn .least .result) (some turn .1) _ (counted c),
-      c .before .choose-by-both .kept .1 .1 .1 .1 .1 .1 .0 ∙ l .inv .1,
+      c .before .choose-by-both .kept .1 .1 .1 .1 .1 .1 .1 .0 ∙ l .inv .1,
     )
 
 returns : tie.Need-returns Inv-loop μ-loop
@@ -106,6 +107,7 @@ count-blocks-spec =
     (tie.spec
     Inv-loop
     μ-loop
+    (λ c κs. tt)
     loop-holds
     (λ c κs. tt)
     mul-next

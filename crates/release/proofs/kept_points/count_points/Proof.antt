@@ -13,7 +13,7 @@ held : (c : tie.Then1) → let a = c .before .before .before .args in InRun (a .
 held c = in-run _ _ _ (sym (c .before .holds .ensures) ∙ c .if1 .taken)
 
 count-held-requires : tie.Need-count-held-requires
-count-held-requires c κs = held c .within
+count-held-requires c κs = (held c .within, held c .long)
 
 returns : tie.Need-returns
 returns c =

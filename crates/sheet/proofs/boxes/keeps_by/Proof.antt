@@ -4,13 +4,13 @@ use mathlib.Core.Bool.{true, false, and-true}
 use denote.Ref.{now}
 use lib.Dec.{eqb}
 use Rattle.sheet.specs.Keeping.{inTable}
-use Rattle.sheet.specs.Boxes.{boxCount, inBoxes, keepsBy}
+use Rattle.sheet.specs.Boxes.{boxCount, inAny, inBoxes, keepsBy}
 use Rattle.sheet.proofs.boxes.keeps_by.Statement.{statement}
 use Rattle.sheet.proofs.boxes.keeps_by.Tie as tie
 
 -- with no box the table decides
 returns : tie.Need-returns
-unfolding keepsBy inBoxes
+unfolding keepsBy inBoxes inAny
 returns c =
     let k = c .before .before in
     let a = k .before .before .args in

@@ -1,0 +1,4 @@
+mod BitLaws
+mod CellLaws
+mod MarkLaws
+mod NearLaws
