@@ -3,3 +3,4 @@ pub mod ByteLaws
 pub mod StoreLaws
 pub mod TextLaws
 pub mod CheckLaws
+pub mod LiftLaws

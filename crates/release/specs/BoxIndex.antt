@@ -7,14 +7,14 @@ use mathlib.Core.List.{List}
 use lib.ListN.{getD}
 use lib.IntN.{ℤ, pos, negsuc}
 use Rattle.points.specs.declared.raw.Stored.{Stored}
-use Rattle.sheet.specs.Boxes.{turned, boxCount, along}
+use Rattle.sheet.specs.Boxes.{boxCount, along}
 
 -- ---- cells
 
 -- a stored value as a number from 0 on, in the same order
 unfoldable pub key : ℤ → ℕ
-key (pos n) = 2147483648 + n
-key (negsuc n) = 2147483647 - n
+key (pos n) = n + 2147483648
+key (negsuc n) = 2147483648 - suc n
 
 -- the cell of a stored value, by where its axis begins and by how many bits a cell is wide; those before the first cell
 -- and behind the last count as in these
@@ -30,7 +30,7 @@ abbrev pub lowAt : List ℤ → ℕ → ℕ → ℤ
 lowAt ns axis j = getD ns (64 * (2 * axis) + j) (pos 0)
 
 abbrev pub highAt : List ℤ → ℕ → ℕ → ℤ
-highAt ns axis j = turned (getD ns (64 * (2 * axis + 1) + j) (pos 0))
+highAt ns axis j = getD ns (64 * (2 * axis + 1) + j) (pos 0)
 
 -- ---- bits
 

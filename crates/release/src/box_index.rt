@@ -66,7 +66,7 @@ fn mark_axis(boxes: &[i32; 385], j: usize, axis: usize, index: &mut [u64])
     let low = boxes[CELLS * (2 * axis) + j];
     let high = boxes[CELLS * (2 * axis + 1) + j];
     let first = CELLS * axis + cell_of(begin, bits, low);
-    let last = CELLS * axis + cell_of(begin, bits, boxes::turned(high));
+    let last = CELLS * axis + cell_of(begin, bits, high);
     mark_cells(first, last, j, index);
 }
 
@@ -110,13 +110,29 @@ fn lowest(boxes: &[i32; 385], at: usize, n: usize) -> i32
     least
 }
 
+// The highest of the n numbers from a place on, and of -2^31.
+fn highest(boxes: &[i32; 385], at: usize, n: usize) -> i32
+    requires { ⌜ at + n ≤ 385 ⌝ }
+{
+    let mut most = -2147483648;
+    let mut j = 0;
+    while j < n {
+        let number = boxes[at + j];
+        if most < number {
+            most = number;
+        }
+        j += 1;
+    }
+    most
+}
+
 // Lays the cells of an axis from the lowest low of the first n boxes to their highest high. A range below 2^32 has 32
 // leading zeros or more, and one of 64 cells that are one wide has 58.
 fn lay_axis(boxes: &[i32; 385], n: usize, axis: usize, index: &mut [u64])
     requires { ⌜ (n ≤ 64) × (axis < 3) × (length (now index) ≡ 198) ⌝ }
 {
     let low = key(lowest(boxes, CELLS * (2 * axis), n));
-    let high = key(boxes::turned(lowest(boxes, CELLS * (2 * axis + 1), n)));
+    let high = key(highest(boxes, CELLS * (2 * axis + 1), n));
     let zeros = u64::leading_zeros(past(low, high)) as u64;
     index[ALL_CELLS + axis] = low;
     index[WIDTHS + axis] = past(zeros, 58);

@@ -19,7 +19,7 @@ use tally::Tally;
 
 // Writes the records at the first k of the chosen places of a block to the front of `out`, one behind the other.
 fn copy_chosen(block: &[u8], record_length: usize, chosen: &[usize], k: usize, out: &mut [u8])
-    requires { ⌜ (k ≤ 96)
+    requires { ⌜ (k ≤ 64)
         × (k ≤ length (now chosen))
         × Places «record_length» (now block) (take k (now chosen))
         × (k * «record_length» ≤ length (now out)) ⌝ }
@@ -51,7 +51,7 @@ fn copy_block(
     chosen: &mut [usize],
     out: &mut [u8],
 ) -> usize
-    requires { ⌜ (n ≤ 96)
+    requires { ⌜ (n ≤ 64)
         × (n ≤ length (now chosen))
         × (n * «record_length» ≤ length (now block))
         × (20 ≤ «record_length»)

@@ -8,7 +8,7 @@ ghost use Rattle.fields.specs.Lists.{kept};
 ghost use Rattle.sheet.specs.Keeping.{inTable};
 ghost use Rattle.sheet.specs.Boxes.{boxCount, inBoxes, keepsBy};
 ghost use Rattle.release.specs.BoxIndex.{Covers};
-ghost use Rattle.release.specs.KeptPoints.{keptPoints, keptOf, picked, Places};
+ghost use Rattle.release.specs.KeptPoints.{keptPoints, keptOf, picked, Places, Chooses};
 use crate::box_index;
 use fields::numbers;
 use points::raw;
@@ -16,7 +16,7 @@ use sheet::boxes;
 use sheet::class_table;
 
 // How many records are looked at before the kept ones among them are copied: so many stay in the first-level cache.
-pub(crate) const BLOCK: usize = 96;
+pub(crate) const BLOCK: usize = 64;
 
 // What a point or a record counts. The compiler makes no branch of it.
 pub(crate) fn one_if(keep: bool) -> usize
@@ -36,11 +36,10 @@ fn choose_by_table(
     chosen: &mut [usize],
 ) -> usize
     requires { ⌜
-        (n ≤ 96) × (n ≤ length (now chosen)) × (n * «record_length» ≤ length (now block)) ⌝ }
-    ensures { λ r. ⌜ (r ≤ n)
-        × (picked «record_length» (now (block .entry)) (take r (now (chosen .exit)))
-        ≡ keptOf (inTable (now (table .entry)) format) n «record_length» (now (block .entry)))
-        × Places «record_length» (now (block .entry)) (take r (now (chosen .exit))) ⌝ }
+        (n ≤ 64) × (n ≤ length (now chosen)) × (n * «record_length» ≤ length (now block)) ⌝ }
+    ensures { λ r. ⌜
+        Chooses (inTable (now (table .entry)) format)
+        n «record_length» (now (block .entry)) r (now (chosen .exit)) ⌝ }
 {
     let mut at = 0;
     let mut k = 0;
@@ -66,7 +65,7 @@ fn choose_in_boxes(
     k: usize,
     chosen: &mut [usize],
 ) -> usize
-    requires { ⌜ (k ≤ 96)
+    requires { ⌜ (k ≤ 64)
         × (k ≤ length (now chosen))
         × Places «record_length» (now block) (take k (now chosen))
         × (20 ≤ «record_length»)
@@ -107,17 +106,15 @@ fn choose_by_both(
     index: &[u64; 198],
     chosen: &mut [usize],
 ) -> usize
-    requires { ⌜ (n ≤ 96)
+    requires { ⌜ (n ≤ 64)
         × (n ≤ length (now chosen))
         × (n * «record_length» ≤ length (now block))
         × (20 ≤ «record_length»)
         × (0 < boxCount (now boxes))
         × Covers (now boxes) (now index) ⌝ }
-    ensures { λ r. ⌜ (r ≤ n)
-        × (picked «record_length» (now (block .entry)) (take r (now (chosen .exit)))
-        ≡ keptOf (keepsBy (now (table .entry)) (now (boxes .entry)) format) n «record_length»
-        (now (block .entry)))
-        × Places «record_length» (now (block .entry)) (take r (now (chosen .exit))) ⌝ }
+    ensures { λ r. ⌜
+        Chooses (keepsBy (now (table .entry)) (now (boxes .entry)) format)
+        n «record_length» (now (block .entry)) r (now (chosen .exit)) ⌝ }
 {
     let k = choose_by_table(block, format, record_length, n, table, chosen);
     choose_in_boxes(block, record_length, boxes, index, k, chosen)
@@ -134,16 +131,14 @@ pub(crate) fn choose(
     index: &[u64; 198],
     chosen: &mut [usize],
 ) -> usize
-    requires { ⌜ (n ≤ 96)
+    requires { ⌜ (n ≤ 64)
         × (n ≤ length (now chosen))
         × (n * «record_length» ≤ length (now block))
         × (20 ≤ «record_length»)
         × Covers (now boxes) (now index) ⌝ }
-    ensures { λ r. ⌜ (r ≤ n)
-        × (picked «record_length» (now (block .entry)) (take r (now (chosen .exit)))
-        ≡ keptOf (keepsBy (now (table .entry)) (now (boxes .entry)) format) n «record_length»
-        (now (block .entry)))
-        × Places «record_length» (now (block .entry)) (take r (now (chosen .exit))) ⌝ }
+    ensures { λ r. ⌜
+        Chooses (keepsBy (now (table .entry)) (now (boxes .entry)) format)
+        n «record_length» (now (block .entry)) r (now (chosen .exit)) ⌝ }
 {
     if boxes::no_box(boxes) {
         return choose_by_table(block, format, record_length, n, table, chosen);

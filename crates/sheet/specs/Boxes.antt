@@ -1,38 +1,28 @@
 -- The boxes of a keep sheet as numbers, which a release reads once, and whether a point lies in one of them.
 -- Assumes nothing.
 use mathlib.Core.Path.{_≡_}
-use Prim.Native.Nat.{ℕ, zero, suc, _+_, _*_, _%_, _<_}
+use Prim.Native.Nat.{ℕ, zero, suc, _+_, _*_, _<_}
 use mathlib.Core.Bool.{Bool, false, cond, _&&_, _||_}
 use mathlib.Core.List.{List, [], _∷_, _++_, map}
 use lib.ListN.{length, getD}
 use lib.Dec.{ltb, eqb}
 use lib.IntN.{ℤ, pos, negsuc}
-use lib.Signed.{leZ}
 use Rattle.fields.specs.Lists.{consIf, kept}
 use Rattle.fields.specs.Bytes.{Bytes}
 use Rattle.points.specs.Raw.{stored}
 use Rattle.points.specs.declared.raw.Stored.{Stored}
 use Rattle.sheet.specs.Sheet.{edge, onEveryAxis, lines}
-use Rattle.sheet.specs.Keeping.{isBox, inTable}
+use Rattle.sheet.specs.Keeping.{inRange, isBox, inTable}
 
 -- ---- 385 numbers: 64 times number 0 of a box, 64 times number 1, and so on, those of box j at place j of each 64; and
--- how many boxes. Highs are turned round, so that a point is tested by six comparisons of one kind.
+-- how many boxes
 
 unfoldable pub boxLines : Bytes → List Bytes
 boxLines sheet = kept isBox (lines sheet)
 
--- -1 - z: of two numbers, the higher has the lower one
-unfoldable pub turned : ℤ → ℤ
-turned (pos n) = negsuc n
-turned (negsuc n) = pos n
-
--- number i of a box as it is put down: a low as it is, a high turned
-unfoldable pub bound : ℕ → Bytes → ℤ
-bound i l = cond (eqb (i % 2) 0) (edge i l) (turned (edge i l))
-
 -- the six numbers of each of these lines; behind them 0
 abbrev pub Numbered : List Bytes → List ℤ → Type 0
-Numbered bs ns = (i j : ℕ) → i < 6 → j < 64 → getD ns (64 * i + j) (pos 0) ≡ getD (map (bound i) bs) j (pos 0)
+Numbered bs ns = (i j : ℕ) → i < 6 → j < 64 → getD ns (64 * i + j) (pos 0) ≡ getD (map (edge i) bs) j (pos 0)
 
 -- the numbers of a sheet's boxes
 abbrev pub BoxesOf : Bytes → List ℤ → Type 0
@@ -49,10 +39,10 @@ upTo64 (negsuc n) = 0
 unfoldable pub boxCount : List ℤ → ℕ
 boxCount ns = upTo64 (getD ns 384 (pos 0))
 
--- whether a stored value lies in box j on an axis: low and turned high are numbers 2 · axis and 2 · axis + 1 of the box
+-- whether a stored value lies in box j on an axis: low and high are numbers 2 · axis and 2 · axis + 1 of the box
 unfoldable pub inAxis : List ℤ → ℕ → ℕ → ℤ → Bool
 inAxis ns j axis z =
-    leZ (getD ns (64 * (2 * axis) + j) (pos 0)) z && leZ (getD ns (64 * (2 * axis + 1) + j) (pos 0)) (turned z)
+    inRange (getD ns (64 * (2 * axis) + j) (pos 0)) (getD ns (64 * (2 * axis + 1) + j) (pos 0)) z
 
 -- whether stored values, by their axis, lie in box j
 unfoldable pub inBoxAt : List ℤ → ℕ → (ℕ → ℤ) → Bool

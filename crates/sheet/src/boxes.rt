@@ -1,14 +1,13 @@
 // The boxes of a keep sheet as numbers, read once for a release, and whether a point lies in one of them.
 // These are 385 numbers: 64 low X, 64 high X, 64 low Y, 64 high Y, 64 low Z and 64 high Z, those of box j at place j of
-// each 64, so that one number of several boxes is read at once; and last how many boxes there are. Highs are put down
-// turned, -1 - z, so that all six tests of a box are of one kind: its number is at most that of the point.
+// each 64, so that one number of several boxes is read at once; and last how many boxes there are.
 ghost use mathlib.Core.Path.{_≡_};
 ghost use Prim.Native.Nat.{_≤_, _<_};
 ghost use mathlib.Core.Bool.{_&&_};
 ghost use lib.Dec.{eqb, ltb};
 ghost use lib.ListN.{length};
 ghost use Rattle.sheet.specs.Keeping.{isBox};
-ghost use Rattle.sheet.specs.Boxes.{turned, bound, BoxesOf, PutBox, TakesLine, boxCount, inAxis, along, inBoxAt, inFirst, inAny, inBoxes, keepsBy};
+ghost use Rattle.sheet.specs.Boxes.{BoxesOf, PutBox, TakesLine, boxCount, inAxis, along, inBoxAt, inFirst, inAny, inBoxes, keepsBy};
 use crate::class_table;
 use points::raw;
 
@@ -21,21 +20,6 @@ fn is_box(line: &[u8]) -> bool
     fields::numbers::u8_at(line, crate::KIND) == crate::BOX
 }
 
-pub fn turned(z: i32) -> i32
-    ensures { λ r. ⌜ r ≡ turned z ⌝ }
-{
-    -1 - z
-}
-
-// Number i of a box as it is put down.
-fn bound(line: &[u8], i: usize) -> i32
-    requires { ⌜ i < 6 ⌝ }
-    ensures { λ r. ⌜ r ≡ bound i (now (line .entry)) ⌝ }
-{
-    let number = crate::edge(line, i);
-    if i % 2 == 0 { number } else { turned(number) }
-}
-
 // Puts the six numbers of a box behind those of n boxes.
 fn put_box(line: &[u8], n: usize, boxes: &mut [i32])
     requires { ⌜ (n < 64) × (length (now boxes) ≡ 385) ⌝ }
@@ -43,7 +27,7 @@ fn put_box(line: &[u8], n: usize, boxes: &mut [i32])
 {
     let mut i = 0;
     while i < 6 {
-        let number = bound(line, i);
+        let number = crate::edge(line, i);
         boxes[64 * i + n] = number;
         i += 1;
     }
@@ -105,7 +89,7 @@ fn in_axis(boxes: &[i32; 385], axis: usize, j: usize, z: i32) -> bool
 {
     let low = boxes[64 * (2 * axis) + j];
     let high = boxes[64 * (2 * axis + 1) + j];
-    (low <= z) & (high <= turned(z))
+    (low <= z) & (z <= high)
 }
 
 // Whether stored values lie in box j of the 64 that there is room for.
@@ -153,9 +137,9 @@ pub fn in_boxes(boxes: &[i32; 385], point: &[u8]) -> bool
 pub fn keeps_by(table: &[bool; 256], boxes: &[i32; 385], format: u8, point: &[u8]) -> bool
     ensures { λ r. ⌜ r ≡ keepsBy (now (table .entry)) (now (boxes .entry)) format (now (point .entry)) ⌝ }
 {
-    let kept = class_table::in_table(table, format, point);
     if no_box(boxes) {
-        return kept;
+        return class_table::in_table(table, format, point);
     }
+    let kept = class_table::in_table(table, format, point);
     if kept { in_boxes(boxes, point) } else { false }
 }

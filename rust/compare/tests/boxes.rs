@@ -3,6 +3,7 @@
 //! sides cannot share a misreading.
 
 mod boxes {
+    mod cells;
     mod classes;
     mod extremes;
     mod faults;

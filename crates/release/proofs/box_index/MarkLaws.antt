@@ -1,7 +1,7 @@
--- How boxes are marked in an index, apart from any code: one cell, the cells of a box on one axis, a box, and all boxes.
+-- How boxes are marked in an index, apart from any code: one cell, a box on one axis, a box, and all boxes.
 -- Assumes nothing.
-use mathlib.Core.Path.{_≡_, refl, sym, ap, _∙_}
-use Prim.Native.Nat.{ℕ, zero, suc, _+_, _*_, _^_, _≤_, _<_}
+use mathlib.Core.Path.{_≡_, refl, _∙_}
+use Prim.Native.Nat.{ℕ, _+_, _*_, _^_, _≤_, _<_}
 use native.Mathlib.Omega.{arith}
 use mathlib.Core.Bool.{Bool, true, false}
 use mathlib.Core.List.{List}

@@ -1,19 +1,19 @@
 -- What an index says of a point, apart from any code: a point that lies in a box has that box's bit.
 -- Assumes nothing.
-use mathlib.Core.Path.{_≡_, refl, sym, ap, _∙_}
-use Prim.Native.Nat.{ℕ, zero, suc, _+_, _*_, _%_, _^_, _≤_, _<_}
+use mathlib.Core.Path.{_≡_, refl, sym, _∙_}
+use Prim.Native.Nat.{ℕ, zero, suc, _+_, _*_, _%_, _^_, _<_}
 use native.Mathlib.Omega.{arith}
 use mathlib.Core.Bool.{Bool, true, false, _&&_, _||_}
 use mathlib.Core.List.{List}
 use lib.ListN.{getD}
 use lib.Dec.{ltb, eqb}
-use lib.IntN.{ℤ, pos}
+use lib.IntN.{ℤ}
 use lib.Signed.{leZ}
 use borrow.Author.Tests.{ltb-true, lt-ltb, eqb-true, eqb-false, ne-eqb}
 use Rattle.points.specs.declared.raw.Stored.{Stored}
 use Rattle.sheet.specs.Sheet.{onEveryAxis}
-use Rattle.sheet.specs.Boxes.{turned, boxCount, inAxis, inBoxAt, inFirst, inAny, along}
-use Rattle.sheet.proofs.boxes.BoxLaws.{turned-le}
+use Rattle.sheet.specs.Keeping.{inRange}
+use Rattle.sheet.specs.Boxes.{boxCount, inAxis, inBoxAt, inFirst, inAny, along}
 use Rattle.release.specs.BoxIndex.{cellAt, lowAt, highAt, HasBit, Indexed, Near}
 use Rattle.release.proofs.box_index.BitLaws.{shifted, no-bit, only-bit}
 use Rattle.release.proofs.box_index.CellLaws.{cell-le}
@@ -28,19 +28,13 @@ and-right : (a b : Bool) → a && b ≡ true → b ≡ true
 and-right true b e = e
 and-right false b e = let z : _≡_ {A = ℕ} 0 1 = cc in absurd (omega arith)
 
-turned-twice : (z : ℤ) → turned (turned z) ≡ z
-unfolding turned
-turned-twice (pos n) = refl
-turned-twice (lib.IntN.negsuc n) = refl
-
 module _ (ns : List ℤ) (index : List ℕ) (n : ℕ) (h : Indexed ns n index) where
   -- on one axis
   on-axis : (j axis : ℕ) → j < n → axis < 3 → (z : ℤ) → inAxis ns j axis z ≡ true → HasBit j (getD index (64 * axis + cellAt index axis z) 0)
-  unfolding inAxis
+  unfolding inAxis inRange
   on-axis j axis less three z e =
-      let low = and-left (leZ (lowAt ns axis j) z) (leZ (getD ns (64 * (2 * axis + 1) + j) (pos 0)) (turned z)) e in
-      let back = and-right (leZ (lowAt ns axis j) z) (leZ (getD ns (64 * (2 * axis + 1) + j) (pos 0)) (turned z)) e in
-      let high : leZ z (highAt ns axis j) ≡ true = sym (turned-le (highAt ns axis j) z) ∙ rw (turned-twice (getD ns (64 * (2 * axis + 1) + j) (pos 0))) back in
+      let low = and-left (leZ (lowAt ns axis j) z) (leZ z (highAt ns axis j)) e in
+      let high = and-right (leZ (lowAt ns axis j) z) (leZ z (highAt ns axis j)) e in
       h j axis less three (cellAt index axis z) (cell-le _ _ (lowAt ns axis j) z low) (cell-le _ _ z (highAt ns axis j) high)
 
   -- on all

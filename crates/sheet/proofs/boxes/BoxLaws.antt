@@ -10,15 +10,14 @@ use mathlib.Core.List.{List, [], _∷_, map}
 use lib.ListN.{length, getD, take}
 use lib.Seq.{take-all}
 use lib.Dec.{ltb, eqb}
-use lib.IntN.{ℤ, pos, negsuc}
-use lib.Signed.{leZ}
+use lib.IntN.{ℤ, pos}
 use Rattle.fields.specs.Lists.{anyOf}
 use Rattle.fields.specs.Bytes.{Bytes, AllBytes}
 use Rattle.fields.proofs.ListLaws.{length-kept, some-kept, some-counted, some-take}
 use Rattle.points.specs.Raw.{stored, storedOf}
 use Rattle.sheet.specs.Sheet.{edge, low, high, onEveryAxis, lines}
-use Rattle.sheet.specs.Keeping.{inRange, isBox, inBox, containsPoint, hasBox, keepsPlace, keepsPoint, TableOf, inTable}
-use Rattle.sheet.specs.Boxes.{boxLines, turned, bound, Numbered, BoxesOf, upTo64, boxCount, inAxis, inBoxAt, inFirst, inAny, along, inBoxes, keepsBy}
+use Rattle.sheet.specs.Keeping.{isBox, inBox, containsPoint, hasBox, keepsPlace, keepsPoint, TableOf, inTable}
+use Rattle.sheet.specs.Boxes.{boxLines, Numbered, BoxesOf, upTo64, boxCount, inAxis, inBoxAt, inFirst, inAny, along, inBoxes, keepsBy}
 use Rattle.sheet.proofs.LineLaws.{at-most-64}
 use Rattle.sheet.proofs.class_table.ClassLaws.{table-keeps}
 
@@ -48,14 +47,6 @@ pub by-bytes : (ns : List ℤ) (p : Bytes) → inAny ns (along (storedOf p)) ≡
 unfolding inBoxes inAny
 by-bytes ns p = ap (λ (b : Bool). eqb (boxCount ns) 0 || b) (first-by-bytes ns p (boxCount ns))
 
--- a high that is turned is at most a point's number exactly if the point's is at most the high
-pub turned-le : (a b : ℤ) → leZ (turned a) (turned b) ≡ leZ b a
-unfolding turned
-turned-le (pos a) (pos b) = refl
-turned-le (pos a) (negsuc b) = refl
-turned-le (negsuc a) (pos b) = refl
-turned-le (negsuc a) (negsuc b) = refl
-
 of-line : (f : Bytes → ℤ) (bs : List Bytes) (j : ℕ) → j < length bs → getD (map f bs) j (pos 0) ≡ f (getD bs j [])
 of-line f [] j h = absurd (omega arith)
 of-line f (b ∷ bs) zero h = refl
@@ -65,11 +56,11 @@ module _ (bs : List Bytes) (ns : List ℤ) (h : Numbered bs ns) (j : ℕ) (less 
   abbrev line : Bytes
   line = getD bs j []
 
-  number : (i : ℕ) → i < 6 → getD ns (64 * i + j) (pos 0) ≡ bound i line
-  number i k = h i j k most ∙ of-line (bound i) bs j less
+  number : (i : ℕ) → i < 6 → getD ns (64 * i + j) (pos 0) ≡ edge i line
+  number i k = h i j k most ∙ of-line (edge i) bs j less
 
   in-numbered : (p : Bytes) → inBoxAt ns j (λ axis. stored axis p) ≡ inBox line p
-  unfolding inBoxAt inAxis inBox inRange onEveryAxis low high bound
+  unfolding inBoxAt inAxis inBox onEveryAxis low high
   in-numbered p =
       rw (
         number 0 (omega arith),
@@ -78,9 +69,6 @@ module _ (bs : List Bytes) (ns : List ℤ) (h : Numbered bs ns) (j : ℕ) (less 
         number 3 (omega arith),
         number 4 (omega arith),
         number 5 (omega arith),
-        turned-le (edge 1 line) (stored 0 p),
-        turned-le (edge 3 line) (stored 1 p),
-        turned-le (edge 5 line) (stored 2 p),
       )
 
 in-first : (bs : List Bytes) (ns : List ℤ) → Numbered bs ns → length bs ≤ 64 → (n : ℕ) → n ≤ length bs → (p : Bytes)

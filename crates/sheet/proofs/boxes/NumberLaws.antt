@@ -8,18 +8,18 @@ use mathlib.Core.List.{List, [], _∷_, _++_, append-nil, append-assoc, map}
 use lib.ListN.{length, getD, set, replicate, length-append}
 use lib.Seq.{getD-set-same, getD-set-other}
 use lib.Dec.{T, eqb}
-use lib.IntN.{ℤ, pos, negsuc, natAbs, _-ℤ_}
+use lib.IntN.{ℤ, pos, negsuc, natAbs}
 use lib.Signed.{ltZ, nonNeg}
 use mir.Syntax.{w32}
 use mir.Val.{SFits, toZ, ofZ}
 use mir.ValLaws.{toZ-ofZ}
-use borrow.Author.Tests.{ltb-true, le-ltb, eqb-true, eqb-false}
+use borrow.Author.Tests.{ltb-true, eqb-true, eqb-false}
 use Rattle.fields.specs.Lists.{consIf, kept}
 use Rattle.fields.specs.Bytes.{Bytes, num}
 use Rattle.fields.proofs.ListLaws.{consIf-append}
-use Rattle.sheet.specs.Sheet.{firstLine, afterLine, lines, linesFrom}
+use Rattle.sheet.specs.Sheet.{edge, firstLine, afterLine, lines, linesFrom}
 use Rattle.sheet.specs.Keeping.{isBox}
-use Rattle.sheet.specs.Boxes.{boxLines, turned, bound, Numbered, BoxesOf, TakesLine, upTo64}
+use Rattle.sheet.specs.Boxes.{boxLines, Numbered, BoxesOf, TakesLine, upTo64}
 use Rattle.sheet.proofs.LineLaws.{lines-from, lines-more, lines-full, lines-end}
 
 -- ---- a number from 0 to 64
@@ -47,21 +47,6 @@ unfolding upTo64
 below-64 (pos n) e f = (rw f, omega (arith, ltb-true n 64 f))
 below-64 (negsuc n) e f = let z : _≡_ {A = ℕ} 0 1 = cc in absurd (omega arith)
 
--- ---- numbers turned round
-
--- as the machine subtracts
-pub turned-is : (z : ℤ) → negsuc 0 -ℤ z ≡ turned z
-unfolding turned
-turned-is (pos zero) = refl
-turned-is (pos (suc n)) = ap negsuc (let e : suc (0 + n) ≡ suc n = omega arith in e)
-turned-is (negsuc n) = rw (le-ltb (suc n) 1 (omega arith)) (ap pos (let e : suc n - 1 ≡ n = omega arith in e))
-
--- it fits as well
-pub turned-fits : (z : ℤ) → SFits w32 z → SFits w32 (turned z)
-unfolding turned
-turned-fits (pos n) f = record { sfits = f .sfits }
-turned-fits (negsuc n) f = record { sfits = f .sfits }
-
 -- ---- one line more behind others
 
 module _ (f : Bytes → ℤ) (l : Bytes) where
@@ -80,32 +65,32 @@ module _ (f : Bytes → ℤ) (l : Bytes) where
 -- ---- the numbers of a line, of which the first i are put down
 
 pub record Putting (l : Bytes) (bs : List Bytes) (i : ℕ) (ns : List ℤ) : Type 0 where
-  pub put : (k j : ℕ) → k < i → k < 6 → j < 64 → getD ns (64 * k + j) (pos 0) ≡ getD (map (bound k) (bs ++ l ∷ [])) j (pos 0)
-  pub still : (k j : ℕ) → i ≤ k → k < 6 → j < 64 → getD ns (64 * k + j) (pos 0) ≡ getD (map (bound k) bs) j (pos 0)
+  pub put : (k j : ℕ) → k < i → k < 6 → j < 64 → getD ns (64 * k + j) (pos 0) ≡ getD (map (edge k) (bs ++ l ∷ [])) j (pos 0)
+  pub still : (k j : ℕ) → i ≤ k → k < 6 → j < 64 → getD ns (64 * k + j) (pos 0) ≡ getD (map (edge k) bs) j (pos 0)
 
 module _ (l : Bytes) (bs : List Bytes) where
   pub put-begun : (ns : List ℤ) → Numbered bs ns → Putting l bs 0 ns
   put-begun ns h = record { put = λ k j less. absurd (omega arith); still = λ k j _ a b. h k j a b }
 
   module _ (i : ℕ) (ns : List ℤ) (c : Putting l bs i ns) (low : i < 6) (n : ℕ) (number : length bs ≡ n) (small : n < 64) (size : length ns ≡ 385)
-      (z : ℤ) (is : z ≡ bound i l) where
+      (z : ℤ) (is : z ≡ edge i l) where
     abbrev after : List ℤ
     after = set ns (64 * i + n) z
 
     other : (k j : ℕ) → (64 * k + j ≡ 64 * i + n → ⊥) → getD after (64 * k + j) (pos 0) ≡ getD ns (64 * k + j) (pos 0)
     other k j ne = getD-set-other ns (64 * i + n) (64 * k + j) z (pos 0) ne
 
-    here : (j : ℕ) → j < 64 → (b : Bool) → eqb j n ≡ b → getD after (64 * i + j) (pos 0) ≡ getD (map (bound i) (bs ++ l ∷ [])) j (pos 0)
+    here : (j : ℕ) → j < 64 → (b : Bool) → eqb j n ≡ b → getD after (64 * i + j) (pos 0) ≡ getD (map (edge i) (bs ++ l ∷ [])) j (pos 0)
     here j less true e =
         let same : j ≡ n = eqb-true j n e in
         let at : getD after (64 * i + n) (pos 0) ≡ z = getD-set-same ns (64 * i + n) z (pos 0) (omega arith) in
-        ap (λ (k : ℕ). getD after (64 * i + k) (pos 0)) same ∙ at ∙ is ∙ sym (at-end (bound i) l bs j (omega arith))
+        ap (λ (k : ℕ). getD after (64 * i + k) (pos 0)) same ∙ at ∙ is ∙ sym (at-end (edge i) l bs j (omega arith))
     here j less false e =
         other i j (λ q. eqb-false j n e (omega arith)) ∙ c .still i j (omega arith) low less
-        ∙ sym (elsewhere (bound i) l bs j (λ q. eqb-false j n e (omega arith)))
+        ∙ sym (elsewhere (edge i) l bs j (λ q. eqb-false j n e (omega arith)))
 
     one-of : (k j : ℕ) → k < i + 1 → k < 6 → j < 64 → (b : Bool) → eqb k i ≡ b
-        → getD after (64 * k + j) (pos 0) ≡ getD (map (bound k) (bs ++ l ∷ [])) j (pos 0)
+        → getD after (64 * k + j) (pos 0) ≡ getD (map (edge k) (bs ++ l ∷ [])) j (pos 0)
     one-of k j less k6 j64 true e = rw (eqb-true k i e) (here j j64 (eqb j n) refl)
     one-of k j less k6 j64 false e =
         let ne : k ≡ i → ⊥ = eqb-false k i e in

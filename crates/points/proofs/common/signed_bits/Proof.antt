@@ -1,17 +1,19 @@
 -- `common::signed_bits` meets its contract: the sum with 2 ^ 32 is not negative and has the same low 32 bits. Assumes
 -- nothing.
-use Rattle.points.proofs.common.BitsLaws.{cast-fits, sum-fits, back-fits, low-bits}
+use native.Mathlib.Omega.{arith}
+use Rattle.fields.proofs.LiftLaws.{cast-fits, sum-fits, back-fits}
+use Rattle.points.proofs.common.BitsLaws.{low-bits}
 use Rattle.points.proofs.common.signed_bits.Statement.{statement}
 use Rattle.points.proofs.common.signed_bits.Tie as tie
 
 cast-result : tie.Need-cast-result
-cast-result c = cast-fits (c .args .z) (c .fits .z)
+cast-result c = cast-fits 4294967296 (omega arith) (omega arith) (c .args .z) (c .fits .z)
 
 add-result : tie.Need-add-result
-add-result c = sum-fits (c .args .z) (c .fits .z)
+add-result c = sum-fits 4294967296 (omega arith) (omega arith) (c .args .z) (c .fits .z)
 
 cast-result-2 : tie.Need-cast-result-2
-cast-result-2 c = back-fits (c .args .z) (c .fits .z)
+cast-result-2 c = back-fits 4294967296 (omega arith) (omega arith) (c .args .z) (c .fits .z)
 
 returns : tie.Need-returns
 returns c = low-bits (c .args .z) (c .fits .z)

@@ -5,7 +5,7 @@ use mathlib.Core.Path.{_≡_, _∙_}
 use borrow.Author.Tests.{lt-ltb}
 use native.Mathlib.Nat.{mod-lt}
 use denote.Ref.{now}
-use Prim.Native.Nat.{ℕ, _%_, _<_}
+use Prim.Native.Nat.{_%_, _<_}
 use mathlib.Core.Bool.{_&&_}
 use lib.Dec.{ltb}
 use lib.Count.{trailingZeros}

@@ -1,9 +1,6 @@
 -- `box_index::mark_axis` meets its contract. Assumes nothing.
 use mathlib.Core.Path.{_≡_}
-use Prim.Native.Nat.{_+_, _*_}
 use denote.Ref.{now}
-use lib.ListN.{getD}
-use lib.IntN.{pos}
 use borrow.Author.Needs.{needs}
 use mir.Syntax.{w32}
 use mir.ValLaws.{toZ-ofZ}
@@ -13,19 +10,16 @@ use Rattle.release.proofs.box_index.mark_axis.Tie as tie
 
 returns : tie.Need-returns
 returns c =
-    let high = c .before .before .before .before .before .before .before in
-    let s = high .before .before .before .before .before in
-    let a = s .args in
+    let high = c .before .before .before .before .before .before in
+    let a = high .before .before .before .before .before .args in
     let ns = now (a .boxes) in
-    let of-low = c .before .before .before .before .before .before .cell-of in
-    let turn = c .before .before .before .before .before .turned in
+    let of-low = c .before .before .before .before .before .cell-of in
     let of-high = c .before .before .before .before .cell-of2 in
     let first : of-low .result ≡ cellAt (now (a .index)) (a .axis) (lowAt ns (a .axis) (a .j)) =
     rw (of-low .ensures .0, toZ-ofZ w32 (lowAt ns (a .axis) (a .j)) (record { sfits = high .before .low .given })) in
-    let back = toZ-ofZ w32 (getD ns (64 * (2 * a .axis + 1) + a .j) (pos 0)) (record { sfits = high .high .given }) in
     let last : of-high .result ≡ cellAt (now (a .index)) (a .axis) (highAt ns (a .axis) (a .j)) =
-    rw (of-high .ensures .0, toZ-ofZ w32 (turn .result) (record { sfits = turn .ok }), turn .ensures, back) in
+    rw (of-high .ensures .0, toZ-ofZ w32 (highAt ns (a .axis) (a .j)) (record { sfits = high .high .given })) in
     rw (first, last) at (c .before .before .mark-cells .ensures)
 
 pub mark-axis-spec : {M : Type 1} → statement M
-mark-axis-spec = tie.close (tie.spec (λ c. search needs) (λ c. search needs) (λ c. search needs) (λ c. search needs) (λ c. search needs) (λ c. search needs) (λ c. search needs) (λ c. search needs) (λ c. search needs) (λ c. search needs) (λ c. search needs) (λ c. search needs) (λ c. search needs) (λ c. search needs) (λ c. search needs) (λ c. search needs) (λ c. search needs) (λ c. search needs) (λ c κs. search needs) (λ c. search needs) (λ c. search needs) (λ c κs. search needs) (λ c κs. search needs) (λ c. search needs) (λ c κs. search needs) (λ c. search needs) returns)
+mark-axis-spec = tie.close (tie.spec (λ c. search needs) (λ c. search needs) (λ c. search needs) (λ c. search needs) (λ c. search needs) (λ c. search needs) (λ c. search needs) (λ c. search needs) (λ c. search needs) (λ c. search needs) (λ c. search needs) (λ c. search needs) (λ c. search needs) (λ c. search needs) (λ c. search needs) (λ c. search needs) (λ c. search needs) (λ c. search needs) (λ c κs. search needs) (λ c. search needs) (λ c. search needs) (λ c κs. search needs) (λ c. search needs) (λ c κs. search needs) (λ c. search needs) returns)

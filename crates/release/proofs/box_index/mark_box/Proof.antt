@@ -1,9 +1,8 @@
 -- `box_index::mark_box` meets its contract. Assumes nothing.
 use mathlib.Core.Path.{_≡_, sym, _∙_}
 use native.Mathlib.Omega.{arith}
-use borrow.Author.Needs.{needs}
 use denote.Ref.{now}
-use Prim.Native.Nat.{ℕ, _-_, _≤_, _<_}
+use Prim.Native.Nat.{ℕ, _-_, _<_}
 use lib.ListN.{length}
 use Rattle.release.specs.BoxIndex.{MarkedOn, Grown}
 use Rattle.release.proofs.box_index.MarkLaws.{grown-none, axes-next}

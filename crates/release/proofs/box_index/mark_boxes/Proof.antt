@@ -1,7 +1,6 @@
 -- `box_index::mark_boxes` meets its contract. Assumes nothing.
 use mathlib.Core.Path.{_≡_, sym, _∙_}
 use native.Mathlib.Omega.{arith}
-use borrow.Author.Needs.{needs}
 use denote.Ref.{now}
 use Prim.Native.Nat.{_-_, _≤_}
 use lib.ListN.{length}

@@ -21,7 +21,7 @@ use Rattle.release.proofs.copier.copy_run.Tie as tie
 
 abbrev Inv-loop : tie.InvT-loop
 Inv-loop run format record-length count table boxes out₀ index chosen₀ t₀ at₀ to₀ left₀ out chosen t at to left =
-    Blocked (keepsBy table boxes format) format record-length count run out₀ out left at to t × (length chosen ≡ 96)
+    Blocked (keepsBy table boxes format) format record-length count run out₀ out left at to t × (length chosen ≡ 64)
 
 abbrev μ-loop : tie.MeasureT-loop
 μ-loop run format record-length count table boxes out₀ index chosen₀ t₀ at₀ to₀ left₀ out chosen t at to left = left
@@ -32,7 +32,7 @@ loop-holds c =
     (blocks-begun _ _ _ _ _ _ (s .pre .3) (s .pre .1) (s .pre .0) _ (c .fresh .ensures) (s .pre .2), refl)
 
 -- in a turn the block is of some of the records that are left
-some : (c : tie.After-least Inv-loop μ-loop) → (0 < c .least .result) × (c .least .result ≤ c .before .before .loop .left) × (c .least .result ≤ 96)
+some : (c : tie.After-least Inv-loop μ-loop) → (0 < c .least .result) × (c .least .result ≤ c .before .before .loop .left) × (c .least .result ≤ 64)
 some c = omega (arith, c .least .ensures, c .before .loop-test .taken)
 
 -- it lies in the run

@@ -29,7 +29,7 @@ inside c =
 
 -- and there are places
 among : (c : tie.In-loop Inv-loop μ-loop)
-    → (c .before .loop .j < 96) × (c .before .loop .j < length (c .before .loop .chosen)) × (c .before .loop .m ≤ c .before .loop .j)
+    → (c .before .loop .j < 64) × (c .before .loop .j < length (c .before .loop .chosen)) × (c .before .loop .m ≤ c .before .loop .j)
 among c =
     let s = c .before .before .before .before .before .before in
     let l = c .before .loop in

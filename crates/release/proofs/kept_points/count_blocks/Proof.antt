@@ -16,7 +16,7 @@ use Rattle.release.proofs.kept_points.count_blocks.Tie as tie
 
 abbrev Inv-loop : tie.InvT-loop
 Inv-loop run format record-length count table boxes index chosen₀ at₀ n₀ left₀ chosen at n left =
-    Counted (keepsBy table boxes format) record-length count run left at n × (length chosen ≡ 96)
+    Counted (keepsBy table boxes format) record-length count run left at n × (length chosen ≡ 64)
 
 abbrev μ-loop : tie.MeasureT-loop
 μ-loop run format record-length count table boxes index chosen₀ at₀ n₀ left₀ chosen at n left = left
@@ -25,7 +25,7 @@ loop-holds : tie.Need-loop-holds Inv-loop μ-loop
 loop-holds c = (count-begun _ _ _ _ (c .before .before .pre .0), refl)
 
 -- in a turn the block is of some of the records that are left
-some : (c : tie.After-least Inv-loop μ-loop) → (0 < c .least .result) × (c .least .result ≤ c .before .before .loop .left) × (c .least .result ≤ 96)
+some : (c : tie.After-least Inv-loop μ-loop) → (0 < c .least .result) × (c .least .result ≤ c .before .before .loop .left) × (c .least .result ≤ 64)
 some c = omega (arith, c .least .ensures, c .before .loop-test .taken)
 
 -- it lies in the run

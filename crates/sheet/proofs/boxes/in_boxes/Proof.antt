@@ -1,5 +1,5 @@
 -- `boxes::in_boxes` meets its contract. Assumes nothing.
-use mathlib.Core.Path.{_≡_, ap, _∙_}
+use mathlib.Core.Path.{ap, _∙_}
 use denote.Ref.{now}
 use Rattle.points.specs.declared.raw.Stored.{Stored}
 use Rattle.sheet.specs.Boxes.{along, inAny}

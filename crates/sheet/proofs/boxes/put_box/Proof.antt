@@ -10,7 +10,8 @@ use mir.Syntax.{w32}
 use mir.Val.{toZ, ofZ}
 use mir.ValLaws.{toZ-ofZ}
 use Rattle.fields.specs.Bytes.{Bytes}
-use Rattle.sheet.specs.Boxes.{bound, Numbered}
+use Rattle.sheet.specs.Sheet.{edge}
+use Rattle.sheet.specs.Boxes.{Numbered}
 use Rattle.sheet.proofs.boxes.NumberLaws.{Putting, put-begun, put-next, put-ended}
 use Rattle.sheet.proofs.boxes.put_box.Statement.{statement}
 use Rattle.sheet.proofs.boxes.put_box.Tie as tie
@@ -32,7 +33,7 @@ loop-again : tie.Need-loop-again Inv-loop μ-loop
 loop-again c =
     let a = c .before .before .before .before .args in
     let l = c .before .before .loop in
-    let z : toZ w32 (ofZ w32 (c .bound .result)) ≡ bound (l .i) (now (a .line)) = toZ-ofZ w32 (c .bound .result) (record { sfits = c .bound .ok }) ∙ c .bound .ensures in (
+    let z : toZ w32 (ofZ w32 (c .edge .result)) ≡ edge (l .i) (now (a .line)) = toZ-ofZ w32 (c .edge .result) (record { sfits = c .edge .ok }) ∙ c .edge .ensures in (
       omega arith,
       simp length-set (l .inv .1),
       λ bs e h. put-next (now (a .line)) bs (l .i) (l .boxes) (l .inv .2 bs e h) (omega arith) (a .n) e (c .before .before .before .before .pre .0) (l .inv .1) _ z,
