@@ -1,5 +1,5 @@
--- A number of 32 bits with a number added that no such number is below the negative of: as the machine makes the sum, in
--- 64 bits, and hands it on without a sign.
+-- A number of 32 bits, with so much added that the sum is not negative: as the machine makes it in 64 bits, and hands
+-- it on without a sign.
 -- Assumes nothing.
 use mathlib.Core.Path.{_≡_, refl, ap, _∙_}
 use Prim.Native.Nat.{ℕ, suc, _+_, _-_, _≤_, _<_}

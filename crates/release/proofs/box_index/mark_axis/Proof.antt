@@ -1,5 +1,5 @@
 -- `box_index::mark_axis` meets its contract. Assumes nothing.
-use mathlib.Core.Path.{_≡_}
+use mathlib.Core.Path.{_≡_, ap, _∙_}
 use denote.Ref.{now}
 use borrow.Author.Needs.{needs}
 use mir.Syntax.{w32}
@@ -15,10 +15,11 @@ returns c =
     let ns = now (a .boxes) in
     let of-low = c .before .before .before .before .before .cell-of in
     let of-high = c .before .before .before .before .cell-of2 in
-    let first : of-low .result ≡ cellAt (now (a .index)) (a .axis) (lowAt ns (a .axis) (a .j)) =
-    rw (of-low .ensures .0, toZ-ofZ w32 (lowAt ns (a .axis) (a .j)) (record { sfits = high .before .low .given })) in
-    let last : of-high .result ≡ cellAt (now (a .index)) (a .axis) (highAt ns (a .axis) (a .j)) =
-    rw (of-high .ensures .0, toZ-ofZ w32 (highAt ns (a .axis) (a .j)) (record { sfits = high .high .given })) in
+    let cell = cellAt (now (a .index)) (a .axis) in
+    let first : of-low .result ≡ cell (lowAt ns (a .axis) (a .j)) =
+    of-low .ensures .0 ∙ ap cell (toZ-ofZ w32 (lowAt ns (a .axis) (a .j)) (record { sfits = high .before .low .given })) in
+    let last : of-high .result ≡ cell (highAt ns (a .axis) (a .j)) =
+    of-high .ensures .0 ∙ ap cell (toZ-ofZ w32 (highAt ns (a .axis) (a .j)) (record { sfits = high .high .given })) in
     rw (first, last) at (c .before .before .mark-cells .ensures)
 
 pub mark-axis-spec : {M : Type 1} → statement M

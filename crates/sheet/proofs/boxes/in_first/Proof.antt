@@ -4,7 +4,9 @@ use native.Mathlib.Omega.{arith}
 use borrow.Author.Needs.{needs}
 use borrow.Author.Tests.{lt-ltb}
 use Prim.Native.Nat.{suc, _+_, _-_, _≤_, _<_}
-use Rattle.sheet.specs.Boxes.{along, inFirst}
+use mathlib.Core.Bool.{_||_}
+use denote.Ref.{now}
+use Rattle.sheet.specs.Boxes.{along, inBoxAt, inFirst}
 use Rattle.sheet.proofs.boxes.in_first.Statement.{statement}
 use Rattle.sheet.proofs.boxes.in_first.Tie as tie
 
@@ -28,7 +30,8 @@ loop-again c =
     let a = c .before .before .before .args in
     let e : l .j + 1 ≡ suc (l .j) = omega arith in
     let there : l .j < 64 = omega (arith, c .before .loop-test .taken, c .before .before .before .pre) in
-    (omega arith, rw (e, l .inv .1, c .in-box .ensures, lt-ltb (l .j) 64 there))
+    let inside : c .in-box .result ≡ inBoxAt (now (a .boxes)) (l .j) (along (a .p)) = c .in-box .ensures ∙ rw (lt-ltb (l .j) 64 there) in
+    (omega arith, rw e (λ i. l .inv .1 i || inside i))
 
 returns : tie.Need-returns Inv-loop μ-loop
 returns c =
