@@ -1,16 +1,26 @@
--- A number of 32 bits, with so much added that the sum is not negative: as the machine makes it in 64 bits, and hands
--- it on without a sign.
+-- Signed numbers handed on in more bits; and a number of 32 bits with so much added that the sum is not negative, as
+-- the machine makes it in 64 bits and hands it on without a sign.
 -- Assumes nothing.
 use mathlib.Core.Path.{_≡_, refl, ap, _∙_}
-use Prim.Native.Nat.{ℕ, suc, _+_, _-_, _≤_, _<_}
+use Prim.Native.Nat.{ℕ, suc, _+_, _-_, _^_, _≤_, _<_}
 use native.Mathlib.Omega.{arith}
 use lib.IntN.{ℤ, pos, negsuc, _+ℤ_, natAbs}
 use lib.Signed.{nonNeg}
 use lib.Dec.{T}
-use mir.Syntax.{w32, w64}
-use mir.Val.{Fits, SFits, toZ, ofZ}
+use mir.Syntax.{Width, w32, w64}
+use mir.Val.{Fits, SFits, toZ, ofZ, hbits}
 use mir.ValLaws.{toZ-ofZ}
 use borrow.Author.Tests.{le-ltb}
+
+-- ---- a number handed on in more bits
+
+wider : (w v : Width) → 2 ^ hbits w ≤ 2 ^ hbits v → (z : ℤ) → SFits w z → SFits v z
+wider w v h z f = record { sfits = omega (arith, h, f .sfits) }
+
+pub cast-wider : (w v : Width) → 2 ^ hbits w ≤ 2 ^ hbits v → (z : ℤ) → SFits w z → SFits v (toZ w (ofZ w z))
+cast-wider w v h z f = rw (toZ-ofZ w z f) (wider w v h z f)
+
+-- ---- the sum
 
 abbrev pub lifted : ℕ → ℤ → ℕ
 lifted c (pos n) = n + c
@@ -30,11 +40,11 @@ module _ (c : ℕ) (enough : 2147483648 ≤ c) (few : c ≤ 4294967296) where
   lift-small (negsuc n) f = omega (arith, few)
 
   module _ (z : ℤ) (f : SFits w32 z) where
-    pub cast-fits : SFits w64 (toZ w32 (ofZ w32 z))
-    cast-fits = rw (toZ-ofZ w32 z f) (record { sfits = omega (arith, f .sfits) })
+    wide : SFits w64 (toZ w32 (ofZ w32 z))
+    wide = cast-wider w32 w64 (omega arith) z f
 
     sum-is : Sum c z ≡ pos (lifted c z)
-    sum-is = ap (λ (y : ℤ). y +ℤ pos c) (toZ-ofZ w64 (toZ w32 (ofZ w32 z)) cast-fits ∙ toZ-ofZ w32 z f) ∙ lift-is z f
+    sum-is = ap (λ (y : ℤ). y +ℤ pos c) (toZ-ofZ w64 (toZ w32 (ofZ w32 z)) wide ∙ toZ-ofZ w32 z f) ∙ lift-is z f
 
     pub sum-fits : SFits w64 (Sum c z)
     sum-fits = rw sum-is (record { sfits = omega (arith, lift-small z f) })

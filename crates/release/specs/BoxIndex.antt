@@ -7,7 +7,7 @@ use mathlib.Core.List.{List}
 use lib.ListN.{getD}
 use lib.IntN.{ℤ, pos, negsuc}
 use Rattle.points.specs.declared.raw.Stored.{Stored}
-use Rattle.sheet.specs.Boxes.{boxCount, along}
+use Rattle.sheet.specs.Boxes.{lowAt, highAt, boxCount, along}
 
 -- ---- cells
 
@@ -24,13 +24,6 @@ cellOf begin bits z = min ((key z - begin) / 2 ^ (bits % 64)) 63
 -- on an axis of an index
 abbrev pub cellAt : List ℕ → ℕ → ℤ → ℕ
 cellAt index axis z = cellOf (getD index (192 + axis) 0) (getD index (195 + axis) 0) z
-
--- low and high of box j on an axis, by the numbers of boxes
-abbrev pub lowAt : List ℤ → ℕ → ℕ → ℤ
-lowAt ns axis j = getD ns (64 * (2 * axis) + j) (pos 0)
-
-abbrev pub highAt : List ℤ → ℕ → ℕ → ℤ
-highAt ns axis j = getD ns (64 * (2 * axis + 1) + j) (pos 0)
 
 -- ---- bits
 

@@ -1,5 +1,5 @@
 // An index of boxes: which of them a point may lie in, by a grid of 64 cells on each axis. It is made once for a pass
-// over points where there are several boxes, so that a point asks one of them, in most files, and not all.
+// over points where there are several boxes, so that one of them is asked of a point, in most files, and not all.
 // These are 198 numbers: for each axis 64 cells, bit j of a cell being set where box j reaches into it; for each axis
 // where its first cell begins; and for each axis by how many bits a cell is wide. Stored values before the first cell
 // and behind the last count as in these. So where an axis begins and how wide its cells are matters for speed alone.
@@ -12,12 +12,12 @@ use fields::numbers;
 use points::raw;
 use sheet::boxes;
 
-// How many cells an axis has, and how many there are in all.
+// How many cells an axis has.
 const CELLS: usize = 64;
 
-const ALL_CELLS: usize = 192;
+// Behind all cells: where each axis begins, and then how wide its cells are.
+const BEGINS: usize = 192;
 
-// Where the widths of cells stand, behind where each axis begins.
 const WIDTHS: usize = 195;
 
 // A stored value as a number from 0 on, in the same order.
@@ -61,10 +61,10 @@ fn mark_axis(boxes: &[i32; 385], j: usize, axis: usize, index: &mut [u64])
     requires { ⌜ (j < 64) × (axis < 3) × (length (now index) ≡ 198) ⌝ }
     ensures { λ _. ⌜ MarksAxis (now (boxes .entry)) j axis (now (index .entry)) (now (index .exit)) ⌝ }
 {
-    let begin = index[ALL_CELLS + axis];
+    let begin = index[BEGINS + axis];
     let bits = index[WIDTHS + axis];
-    let low = boxes[CELLS * (2 * axis) + j];
-    let high = boxes[CELLS * (2 * axis + 1) + j];
+    let low = boxes[64 * (2 * axis) + j];
+    let high = boxes[64 * (2 * axis + 1) + j];
     let first = CELLS * axis + cell_of(begin, bits, low);
     let last = CELLS * axis + cell_of(begin, bits, high);
     mark_cells(first, last, j, index);
@@ -126,15 +126,15 @@ fn highest(boxes: &[i32; 385], at: usize, n: usize) -> i32
     most
 }
 
-// Lays the cells of an axis from the lowest low of the first n boxes to their highest high. A range below 2^32 has 32
-// leading zeros or more, and one of 64 cells that are one wide has 58.
+// Lays the cells of an axis from the lowest low of the first n boxes to their highest high. A range with z leading
+// zeros has at most 64 cells of 58 - z bits; a range below 64 has 58 zeros or more, and cells one wide.
 fn lay_axis(boxes: &[i32; 385], n: usize, axis: usize, index: &mut [u64])
     requires { ⌜ (n ≤ 64) × (axis < 3) × (length (now index) ≡ 198) ⌝ }
 {
-    let low = key(lowest(boxes, CELLS * (2 * axis), n));
-    let high = key(highest(boxes, CELLS * (2 * axis + 1), n));
+    let low = key(lowest(boxes, 64 * (2 * axis), n));
+    let high = key(highest(boxes, 64 * (2 * axis + 1), n));
     let zeros = u64::leading_zeros(past(low, high)) as u64;
-    index[ALL_CELLS + axis] = low;
+    index[BEGINS + axis] = low;
     index[WIDTHS + axis] = past(zeros, 58);
 }
 
@@ -158,7 +158,7 @@ fn boxes_at(index: &[u64; 198], axis: usize, z: i32) -> u64
     requires { ⌜ axis < 3 ⌝ }
     ensures { λ r. ⌜ r ≡ getD (now (index .entry)) (64 * axis + cellAt (now (index .entry)) axis z) 0 ⌝ }
 {
-    let cell = cell_of(index[ALL_CELLS + axis], index[WIDTHS + axis], z);
+    let cell = cell_of(index[BEGINS + axis], index[WIDTHS + axis], z);
     index[CELLS * axis + cell]
 }
 

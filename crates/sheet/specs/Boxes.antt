@@ -39,10 +39,16 @@ upTo64 (negsuc n) = 0
 unfoldable pub boxCount : List ℤ → ℕ
 boxCount ns = upTo64 (getD ns 384 (pos 0))
 
--- whether a stored value lies in box j on an axis: low and high are numbers 2 · axis and 2 · axis + 1 of the box
+-- low and high of box j on an axis: numbers 2 · axis and 2 · axis + 1 of the box
+abbrev pub lowAt : List ℤ → ℕ → ℕ → ℤ
+lowAt ns axis j = getD ns (64 * (2 * axis) + j) (pos 0)
+
+abbrev pub highAt : List ℤ → ℕ → ℕ → ℤ
+highAt ns axis j = getD ns (64 * (2 * axis + 1) + j) (pos 0)
+
+-- whether a stored value lies in box j on an axis
 unfoldable pub inAxis : List ℤ → ℕ → ℕ → ℤ → Bool
-inAxis ns j axis z =
-    inRange (getD ns (64 * (2 * axis) + j) (pos 0)) (getD ns (64 * (2 * axis + 1) + j) (pos 0)) z
+inAxis ns j axis z = inRange (lowAt ns axis j) (highAt ns axis j) z
 
 -- whether stored values, by their axis, lie in box j
 unfoldable pub inBoxAt : List ℤ → ℕ → (ℕ → ℤ) → Bool

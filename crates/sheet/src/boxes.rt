@@ -92,14 +92,22 @@ fn in_axis(boxes: &[i32; 385], axis: usize, j: usize, z: i32) -> bool
     (low <= z) & (z <= high)
 }
 
-// Whether stored values lie in box j of the 64 that there is room for.
+// Whether stored values lie in box j.
+fn in_box_at(boxes: &[i32; 385], j: usize, p: raw::Stored) -> bool
+    requires { ⌜ j < 64 ⌝ }
+    ensures { λ r. ⌜ r ≡ inBoxAt (now (boxes .entry)) j (along p) ⌝ }
+{
+    in_axis(boxes, 0, j, p.x) & (in_axis(boxes, 1, j, p.y) & in_axis(boxes, 2, j, p.z))
+}
+
+// The same of any j: there is room for 64 boxes.
 pub fn in_box(boxes: &[i32; 385], j: usize, p: raw::Stored) -> bool
     ensures { λ r. ⌜ r ≡ (ltb j 64 && inBoxAt (now (boxes .entry)) j (along p)) ⌝ }
 {
     if 64 <= j {
         return false;
     }
-    in_axis(boxes, 0, j, p.x) & (in_axis(boxes, 1, j, p.y) & in_axis(boxes, 2, j, p.z))
+    in_box_at(boxes, j, p)
 }
 
 // Whether they lie in one of the first n boxes. All are looked at, with no branch, so that the compiler looks at
@@ -111,7 +119,7 @@ fn in_first(boxes: &[i32; 385], n: usize, p: raw::Stored) -> bool
     let mut found = false;
     let mut j = 0;
     while j < n {
-        let inside = in_box(boxes, j, p);
+        let inside = in_box_at(boxes, j, p);
         found = found | inside;
         j += 1;
     }
@@ -127,13 +135,14 @@ pub fn in_any(boxes: &[i32; 385], p: raw::Stored) -> bool
 }
 
 // Whether a point does, by its bytes.
-pub fn in_boxes(boxes: &[i32; 385], point: &[u8]) -> bool
+fn in_boxes(boxes: &[i32; 385], point: &[u8]) -> bool
     ensures { λ r. ⌜ r ≡ inBoxes (now (boxes .entry)) (now (point .entry)) ⌝ }
 {
     in_any(boxes, raw::stored_of(point))
 }
 
-// Whether a table and boxes keep a point. Boxes are asked only where the table keeps it.
+// Whether a table and boxes keep a point. Boxes are asked only where the table keeps it. Whether there is one is asked
+// first, so that the loop that fills a list has little to pass where there is none.
 pub fn keeps_by(table: &[bool; 256], boxes: &[i32; 385], format: u8, point: &[u8]) -> bool
     ensures { λ r. ⌜ r ≡ keepsBy (now (table .entry)) (now (boxes .entry)) format (now (point .entry)) ⌝ }
 {

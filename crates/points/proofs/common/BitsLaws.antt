@@ -1,21 +1,15 @@
 -- Laws of two's complement: numbers that are passed on as their bits, and the 32 bits of a number.
 -- Assumes nothing.
 use mathlib.Core.Path.{_≡_, ap, _∙_}
-use Prim.Native.Nat.{ℕ, _%_, _^_, _≤_}
+use Prim.Native.Nat.{ℕ, _%_}
 use native.Mathlib.Omega.{arith}
 use lib.IntN.{ℤ, pos, negsuc, natAbs}
 use mir.Syntax.{Width, w8, w32, w64}
-use mir.Val.{SFits, toZ, ofZ, hbits}
+use mir.Val.{SFits, toZ, ofZ}
 use mir.ValLaws.{toZ-ofZ}
-use Rattle.fields.proofs.LiftLaws.{lifted, Sum, lift-back}
+use Rattle.fields.proofs.LiftLaws.{cast-wider, lifted, Sum, lift-back}
 
 -- ---- numbers that are passed on as their bits
-
-wider : (w v : Width) → 2 ^ hbits w ≤ 2 ^ hbits v → (z : ℤ) → SFits w z → SFits v z
-wider w v h z f = record { sfits = omega (arith, h, f .sfits) }
-
-pub cast-wider : (w v : Width) → 2 ^ hbits w ≤ 2 ^ hbits v → (z : ℤ) → SFits w z → SFits v (toZ w (ofZ w z))
-cast-wider w v h z f = rw (toZ-ofZ w z f) (wider w v h z f)
 
 pub passed : (w : Width) (z : ℤ) → SFits w z → ofZ w (toZ w (ofZ w z)) ≡ ofZ w z
 passed w z f = ap (ofZ w) (toZ-ofZ w z f)

@@ -40,7 +40,7 @@ or-bit (suc j) a b x =
 pub or-bit-r : (j a b : ℕ) → HasBit j b → HasBit j (bitOr a b)
 or-bit-r j a b x = rw (or-comm a b) (or-bit j b a x)
 
--- bit j of 2 ^ j, and no other
+-- bit j of 2 ^ j is set
 pub own-bit : (j : ℕ) → HasBit j (2 ^ j)
 unfolding bitOf
 own-bit zero = refl
@@ -57,6 +57,7 @@ unfolding bitOf
 no-bit zero x = absurd (omega (arith, x))
 no-bit (suc j) x = no-bit j x
 
+-- and no other is
 pub only-bit : (i j : ℕ) → HasBit i (2 ^ j) → i ≡ j
 unfolding bitOf
 only-bit zero zero x = refl

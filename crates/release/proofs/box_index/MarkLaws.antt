@@ -11,7 +11,8 @@ use lib.Bits.{bitOr}
 use lib.Dec.{eqb}
 use lib.IntN.{ℤ}
 use borrow.Author.Tests.{eqb-true, eqb-false}
-use Rattle.release.specs.BoxIndex.{cellAt, lowAt, highAt, HasBit, MarkedOn, Indexed, Grown, MarksAxis, MarksBox}
+use Rattle.sheet.specs.Boxes.{lowAt, highAt}
+use Rattle.release.specs.BoxIndex.{cellAt, HasBit, MarkedOn, Indexed, Grown, MarksAxis, MarksBox}
 use Rattle.release.proofs.box_index.BitLaws.{or-bit, or-bit-r, own-bit}
 
 -- ---- what grows

@@ -13,8 +13,8 @@ use borrow.Author.Tests.{ltb-true, lt-ltb, eqb-true, eqb-false, ne-eqb}
 use Rattle.points.specs.declared.raw.Stored.{Stored}
 use Rattle.sheet.specs.Sheet.{onEveryAxis}
 use Rattle.sheet.specs.Keeping.{inRange}
-use Rattle.sheet.specs.Boxes.{boxCount, inAxis, inBoxAt, inFirst, inAny, along}
-use Rattle.release.specs.BoxIndex.{cellAt, lowAt, highAt, HasBit, Indexed, Near}
+use Rattle.sheet.specs.Boxes.{lowAt, highAt, boxCount, inAxis, inBoxAt, inFirst, inAny, along}
+use Rattle.release.specs.BoxIndex.{cellAt, HasBit, Indexed, Near}
 use Rattle.release.proofs.box_index.BitLaws.{shifted, no-bit, only-bit}
 use Rattle.release.proofs.box_index.CellLaws.{cell-le}
 
@@ -69,7 +69,7 @@ in-some ns (suc n) at j less e =
     either true q rest = rw (← eqb-true j n q, e) (or-true (inFirst ns j at))
     either false q rest = rw (rest (eqb-false j n q))
 
--- none of them does, where each that did would have to be box j, and that does not
+-- none of them does, where no single one does
 pub in-none : (ns : List ℤ) (n : ℕ) (at : ℕ → ℤ) → ((i : ℕ) → i < n → inBoxAt ns i at ≡ true → ⊥) → inFirst ns n at ≡ false
 unfolding inFirst
 in-none ns zero at h = refl

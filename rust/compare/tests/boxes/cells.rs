@@ -1,4 +1,4 @@
-//! Boxes whose lows and highs are so far apart, of any distance, and places beside each of them: wherever a release may
+//! Boxes in ranges of every width, and places at and beside each end and each 64th of the range: wherever a release may
 //! cut the range of all boxes into parts, some of these places stand on both sides of a cut.
 
 use compare::compared::Compared;

@@ -7,7 +7,8 @@ use mir.Val.{SFits, ofZ}
 use borrow.Author.Needs.{needs}
 use Rattle.fields.specs.Bytes.{bytesOf}
 use Rattle.points.specs.Encoding.{sharedFields}
-use Rattle.points.proofs.common.BitsLaws.{cast-wider, passed-byte}
+use Rattle.fields.proofs.LiftLaws.{cast-wider}
+use Rattle.points.proofs.common.BitsLaws.{passed-byte}
 use Rattle.points.proofs.common.PackedLaws.{bytes-three}
 use Rattle.points.proofs.common.last_of.Statement.{statement}
 use Rattle.points.proofs.common.last_of.Tie as tie

@@ -1,13 +1,14 @@
 -- `box_index::key` meets its contract: the sum with 2 ^ 31 is not negative. Assumes nothing.
 use mathlib.Core.Path.{_∙_}
 use native.Mathlib.Omega.{arith}
-use Rattle.fields.proofs.LiftLaws.{cast-fits, sum-fits, back-fits, lift-back}
+use mir.Syntax.{w32, w64}
+use Rattle.fields.proofs.LiftLaws.{cast-wider, sum-fits, back-fits, lift-back}
 use Rattle.release.proofs.box_index.CellLaws.{key-is}
 use Rattle.release.proofs.box_index.key.Statement.{statement}
 use Rattle.release.proofs.box_index.key.Tie as tie
 
 cast-result : tie.Need-cast-result
-cast-result c = cast-fits 2147483648 (omega arith) (omega arith) (c .args .z) (c .fits .z)
+cast-result c = cast-wider w32 w64 (omega arith) (c .args .z) (c .fits .z)
 
 add-result : tie.Need-add-result
 add-result c = sum-fits 2147483648 (omega arith) (omega arith) (c .args .z) (c .fits .z)

@@ -4,7 +4,8 @@ use denote.Ref.{now}
 use borrow.Author.Needs.{needs}
 use mir.Syntax.{w32}
 use mir.ValLaws.{toZ-ofZ}
-use Rattle.release.specs.BoxIndex.{cellAt, lowAt, highAt}
+use Rattle.sheet.specs.Boxes.{lowAt, highAt}
+use Rattle.release.specs.BoxIndex.{cellAt}
 use Rattle.release.proofs.box_index.mark_axis.Statement.{statement}
 use Rattle.release.proofs.box_index.mark_axis.Tie as tie
 

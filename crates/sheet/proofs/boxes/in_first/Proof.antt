@@ -2,11 +2,9 @@
 use mathlib.Core.Path.{_≡_, refl, _∙_}
 use native.Mathlib.Omega.{arith}
 use borrow.Author.Needs.{needs}
-use borrow.Author.Tests.{lt-ltb}
-use Prim.Native.Nat.{suc, _+_, _-_, _≤_, _<_}
+use Prim.Native.Nat.{suc, _+_, _-_, _≤_}
 use mathlib.Core.Bool.{_||_}
-use denote.Ref.{now}
-use Rattle.sheet.specs.Boxes.{along, inBoxAt, inFirst}
+use Rattle.sheet.specs.Boxes.{along, inFirst}
 use Rattle.sheet.proofs.boxes.in_first.Statement.{statement}
 use Rattle.sheet.proofs.boxes.in_first.Tie as tie
 
@@ -27,11 +25,8 @@ loop-again : tie.Need-loop-again Inv-loop μ-loop
 unfolding inFirst
 loop-again c =
     let l = c .before .before .loop in
-    let a = c .before .before .before .args in
     let e : l .j + 1 ≡ suc (l .j) = omega arith in
-    let there : l .j < 64 = omega (arith, c .before .loop-test .taken, c .before .before .before .pre) in
-    let inside : c .in-box .result ≡ inBoxAt (now (a .boxes)) (l .j) (along (a .p)) = c .in-box .ensures ∙ rw (lt-ltb (l .j) 64 there) in
-    (omega arith, rw e (λ i. l .inv .1 i || inside i))
+    (omega arith, rw e (λ i. l .inv .1 i || c .in-box-at .ensures i))
 
 returns : tie.Need-returns Inv-loop μ-loop
 returns c =
