@@ -1,5 +1,7 @@
 // The interface for other languages: each function calls the library's and hands its answer back as numbers. A lent
 // `out`, `room` or `list` overlaps no other argument.
+#![tactic(auto)]
+
 pub mod answers;
 pub mod header;
 pub mod point;
@@ -35,135 +37,113 @@ use sheet::answers::{class_kept, class_test, record_kept};
 use sheet::check_sheet;
 
 // The last change request that is in.
-#[unsafe(no_mangle)]
-pub extern "C" fn las_level() -> u64
+pub fn las_level() -> u64
     ensures { result ≡ las_level }
 {
     7
 }
 
-#[unsafe(no_mangle)]
-pub extern "C" fn las_check_file(file: &[u8]) -> u64
+pub fn las_check_file(file: &[u8]) -> u64
     ensures { result ≡ las_check_file file.now }
 {
     number_of(check_file(file))
 }
 
-#[unsafe(no_mangle)]
-pub extern "C" fn las_check_sheet(sheet: &[u8]) -> u64
+pub fn las_check_sheet(sheet: &[u8]) -> u64
     ensures { result ≡ las_check_sheet sheet.now }
 {
     number_of(check_sheet(sheet))
 }
 
-#[unsafe(no_mangle)]
-pub extern "C" fn las_read_header(file: &[u8]) -> las_header
+pub fn las_read_header(file: &[u8]) -> las_header
     ensures { result ≡ las_read_header file.now }
 {
     header_numbers(read_header(file))
 }
 
 // One step of the walk: first index 0, at the header size.
-#[unsafe(no_mangle)]
-pub extern "C" fn las_vlr_step(file: &[u8], index: usize, position: usize) -> las_record
+pub fn las_vlr_step(file: &[u8], index: usize, position: usize) -> las_record
     ensures { result ≡ las_vlr_step file.now index position }
 {
     record_numbers(VlrCursor { index, position }.step(file))
 }
 
-#[unsafe(no_mangle)]
-pub extern "C" fn las_point_at(file: &[u8], index: usize) -> las_point
+pub fn las_point_at(file: &[u8], index: usize) -> las_point
     ensures { result ≡ las_point_at file.now index }
 {
     point_numbers(point_at(file, index))
 }
 
-#[unsafe(no_mangle)]
-pub extern "C" fn las_decode(format: u8, record_length: u16, bytes: &[u8]) -> las_point
+pub fn las_decode(format: u8, record_length: u16, bytes: &[u8]) -> las_point
     ensures { result ≡ las_decode format record_length bytes.now }
 {
     decoded_numbers(decode(format, record_length, bytes))
 }
 
 // Changes the room only where it answers 0.
-#[unsafe(no_mangle)]
-pub extern "C" fn las_encode(
-    format: u8,
-    record_length: u16,
-    point: las_point,
-    room: &mut [u8],
-) -> u64
+pub fn las_encode(format: u8, record_length: u16, point: las_point, room: &mut [u8]) -> u64
     ensures { (result, room.new) ≡ las_encode format record_length point room.old }
 {
     number_of(encode(format, record_length, given_point(point), room))
 }
 
 // Scale, offset and result are the 64 bits of doubles, of any pattern.
-#[unsafe(no_mangle)]
-pub extern "C" fn las_coordinate(stored: i32, scale: u64, offset: u64) -> u64
+pub fn las_coordinate(stored: i32, scale: u64, offset: u64) -> u64
     ensures { result ≡ las_coordinate stored scale offset }
 {
     coordinate_bits(stored, scale, offset)
 }
 
 // The class is one number from 0 to 255, with no flags in it.
-#[unsafe(no_mangle)]
-pub extern "C" fn las_class_kept(sheet: &[u8], classification: u8) -> las_kept
+pub fn las_class_kept(sheet: &[u8], classification: u8) -> las_kept
     ensures { result ≡ las_class_kept sheet.now classification }
 {
     kept_numbers(class_kept(sheet, classification))
 }
 
 // The same, and the number of lines that were looked at for it.
-#[unsafe(no_mangle)]
-pub extern "C" fn las_class_test(sheet: &[u8], classification: u8) -> las_class_line
+pub fn las_class_test(sheet: &[u8], classification: u8) -> las_class_line
     ensures { result ≡ las_class_test sheet.now classification }
 {
     tested_numbers(class_test(sheet, classification))
 }
 
 // The user ID is any number of bytes, cut as any text.
-#[unsafe(no_mangle)]
-pub extern "C" fn las_record_kept(sheet: &[u8], user: &[u8], record_id: u16) -> las_kept
+pub fn las_record_kept(sheet: &[u8], user: &[u8], record_id: u16) -> las_kept
     ensures { result ≡ las_record_kept sheet.now user.now record_id }
 {
     kept_numbers(record_kept(sheet, user, record_id))
 }
 
-#[unsafe(no_mangle)]
-pub extern "C" fn las_geokey_find(file: &[u8], key: u16) -> las_geokey
+pub fn las_geokey_find(file: &[u8], key: u16) -> las_geokey
     ensures { result ≡ las_geokey_find file.now key }
 {
     geokey_numbers(find(file, key))
 }
 
 // The same by halving, and the number of entries that were read for it.
-#[unsafe(no_mangle)]
-pub extern "C" fn las_geokey_halve(file: &[u8], key: u16) -> las_geokey_read
+pub fn las_geokey_halve(file: &[u8], key: u16) -> las_geokey_read
     ensures { result ≡ las_geokey_halve file.now key }
 {
     read_numbers(find_by_halving(file, key))
 }
 
 // Changes the output only where it answers 0.
-#[unsafe(no_mangle)]
-pub extern "C" fn las_release(file: &[u8], sheet: &[u8], out: &mut [u8]) -> las_released
+pub fn las_release(file: &[u8], sheet: &[u8], out: &mut [u8]) -> las_released
     ensures { (result, out.new) ≡ las_release file.now sheet.now out.old }
 {
     released_numbers(release(file, sheet, out))
 }
 
 // Changes the list only where it answers 0.
-#[unsafe(no_mangle)]
-pub extern "C" fn las_cutting_list(file: &[u8], sheet: &[u8], list: &mut [Span]) -> las_listed
+pub fn las_cutting_list(file: &[u8], sheet: &[u8], list: &mut [Span]) -> las_listed
     ensures { (result, list.new) ≡ las_cutting_list file.now sheet.now list.old }
 {
     listed_numbers(cutting_list(file, sheet, list))
 }
 
 // Changes output and list only where it answers 0.
-#[unsafe(no_mangle)]
-pub extern "C" fn las_release_by_list(
+pub fn las_release_by_list(
     file: &[u8],
     sheet: &[u8],
     out: &mut [u8],
@@ -176,8 +156,7 @@ pub extern "C" fn las_release_by_list(
 }
 
 // Changes the file only where it answers 0.
-#[unsafe(no_mangle)]
-pub extern "C" fn las_mend(file: &mut [u8]) -> las_mended
+pub fn las_mend(file: &mut [u8]) -> las_mended
     ensures { (result, file.new) ≡ las_mend file.old }
 {
     mended_numbers(mend(file))

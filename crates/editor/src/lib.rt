@@ -1,2 +1,4 @@
 // Changes to a file in place.
+#![tactic(auto)]
+
 pub mod mend;

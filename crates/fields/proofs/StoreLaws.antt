@@ -7,7 +7,7 @@ use native.Mathlib.Nat.{eq-zero-or-pos}
 use native.Mathlib.Omega.{arith}
 use mathlib.Core.Bool.{cond}
 use mathlib.Core.List.{[], ◌∷◌, ◌++◌, append_assoc, append-nil}
-use lib.ListN.{length, take, drop, set, length-set, length-take, length-drop, take-append-drop, drop_of_length-le}
+use lib.ListN.{length, take, drop, set, length-set, length-drop, take-append-drop, drop_of_length-le}
 use lib.Dec.{leb}
 use borrow.Author.Tests.{le-leb}
 use lib.Seq.{take_all, sets, sets-eq, paste, length-take-le, take_at, drop_at, set_comm, set_out, drop-set-lt, drop-set-add, take-set-le, drop-drop}

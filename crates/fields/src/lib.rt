@@ -1,4 +1,6 @@
 // Bytes by place: little-endian numbers, runs of bytes, text fields, and the verdict of a table of checks.
+#![tactic(auto)]
+
 pub mod arrays;
 pub mod copying;
 pub mod numbers;

@@ -1,4 +1,6 @@
 // GeoKey lookups: numbers 40 to 46, or a key's value.
+#![tactic(auto)]
+
 pub mod halving;
 
 ghost use Rattle.std.specs.Prelude.{◌≡◌, ◌+◌, ◌<◌, ◌^◌};

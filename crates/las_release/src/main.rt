@@ -1,86 +1,65 @@
 // Releases what sheet.bin keeps of in.las to out.las, in the folder where it runs, and prints one line: what was
 // released, or the number of the refusal.
+#![tactic(auto)]
+
+mod input;
 mod output;
 
-ghost use Rattle.std.specs.Prelude.{◌≡◌, length};
+ghost use Rattle.std.specs.Prelude.{Some, ◌++◌, codes, decimal};
 
-use fields::{Verdict, refusals, slices};
-use lasfile::inputs;
+use fields::{refusals, slices};
 use publicpart::Answer;
+use std::rt::Files;
+use std::{fmt, io};
 
-// Reads until the end of the file or until buf is full, and answers how many bytes it read, or -1 where a read fails. A
-// short read is not the end.
-fn read_to_end(fd: i32, buf: &mut [u8]) -> isize
-    requires { length buf.old ≡ 32769 }
-{
-    let mut done = 0;
-    while done < buf.len() {
-        let got = libc::read(fd, &mut buf[done..]);
-        if got < 0 {
-            return -1;
-        }
-        let n = io::count(got, &buf[done..]);
-        if n == 0 {
-            return done as isize;
-        }
-        done += n;
+// What was released: the length of out.las, its points and its records.
+#[derive(Drop)]
+struct Released {
+    length: usize,
+    points: usize,
+    records: usize,
+}
+
+impl fmt::Display for Released {
+    ghost output = { λ s. Some (codes "released " ++ (decimal s.length ++ (codes " points "
+        ++ (decimal s.points ++ (codes " records " ++ decimal s.records))))) };
+
+    fn fmt<W: fmt::Write>(&self, f: &mut fmt::Formatter<W>) -> fmt::Result {
+        write!(
+            f,
+            "released {} points {} records {}",
+            self.length, self.points, self.records
+        )
     }
-    done as isize
 }
 
-// Reads a file by name, and answers as read_to_end does, or -1 where it is not opened.
-fn read_file(path: &[u8], buf: &mut [u8; 32769]) -> isize {
-    let fd = os::open_read(path);
-    if fd < 0 {
-        return -1;
-    }
-    let got = read_to_end(fd, buf);
-    libc::close(fd);
-    got
-}
-
-// The bytes that were read.
-fn bytes_read(buf: &[u8; 32769], got: isize) -> &[u8] {
-    let n = io::count(got, buf);
-    slices::part_at(buf, 0, n)
-}
-
-// Releases a file under a sheet. The output is as long as a file may be, so that it is never too short.
-fn run(file: &[u8], sheet: &[u8]) {
+// Releases in.las under sheet.bin, or answers the number of the refusal. The output is as long as a file may be, so
+// that it is never too short.
+fn release_folder<R: Files>(rt: &R) -> Result<Released, u64> {
+    let mut file_room = [0u8; input::ROOM];
+    let file = input::read(rt, "in.las", &mut file_room)?;
+    let mut sheet_room = [0u8; input::ROOM];
+    let sheet = input::read(rt, "sheet.bin", &mut sheet_room)?;
     let mut out = [0u8; 32768];
-    let answer = release::release(file, sheet, &mut out);
-    match answer {
+    match release::release(file, sheet, &mut out) {
         Answer::Released(length, points, records) => {
-            if output::save(slices::part_at(&out, 0, length)) {
-                output::print_released(length as u64, points as u64, records as u64);
-            } else {
-                output::print_refused(refusals::FILE_FAILED);
+            if output::save(rt, slices::part_at(&out, 0, length)).is_err() {
+                return Err(refusals::FILE_FAILED);
             }
+            Ok(Released {
+                length,
+                points,
+                records,
+            })
         }
-        Answer::Short(_) => output::print_refused(refusals::OUTPUT_TOO_SHORT),
-        Answer::Refused(n) => output::print_refused(n),
+        Answer::Short(_) => Err(refusals::OUTPUT_TOO_SHORT),
+        Answer::Refused(number) => Err(number),
     }
 }
 
-// Reads sheet.bin, and goes on where that is accepted.
-fn run_on(file: &[u8]) {
-    let mut sheet = [0u8; 32769];
-    let got = read_file(b"sheet.bin", &mut sheet);
-    let bytes = bytes_read(&sheet, got);
-    let verdict = inputs::input_verdict(got >= 0, bytes.len());
-    match verdict {
-        Verdict::Passes => run(file, bytes),
-        Verdict::Fails(n) => output::print_refused(n),
-    }
-}
-
-fn main() {
-    let mut file = [0u8; 32769];
-    let got = read_file(b"in.las", &mut file);
-    let bytes = bytes_read(&file, got);
-    let verdict = inputs::input_verdict(got >= 0, bytes.len());
-    match verdict {
-        Verdict::Passes => run_on(bytes),
-        Verdict::Fails(n) => output::print_refused(n),
+fn main(rt: HostRuntime) -> io::Result<()> {
+    match release_folder(&rt) {
+        Ok(released) => println!(rt; "{released}"),
+        Err(number) => println!(rt; "refused {number}"),
     }
 }

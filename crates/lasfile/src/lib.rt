@@ -1,4 +1,6 @@
 // A LAS file: the places and counts of its header, its variable length records, and the file checks.
+#![tactic(auto)]
+
 pub mod header;
 pub mod inputs;
 pub mod vlr;

@@ -1,4 +1,6 @@
 // Point records: the formats, decoding and encoding.
+#![tactic(auto)]
+
 mod common;
 pub mod encoding;
 pub mod formats;
@@ -16,7 +18,7 @@ use crate::formats::Place;
 use fields::{refusals, signed};
 
 // A point's fields. GPS time is its 64 bits, and the last three are flags of the classification byte.
-#[derive(Drop)]
+#[derive(Clone, Copy)]
 pub struct Point {
     pub x: i32,
     pub y: i32,

@@ -18,7 +18,7 @@ pub const SHORTEST: usize = 20;
 const TOO_MANY: usize = 4294967296;
 
 // The stored X, Y and Z of a point.
-#[derive(Drop)]
+#[derive(Clone, Copy)]
 pub struct Stored {
     pub x: i32,
     pub y: i32,

@@ -13,7 +13,7 @@ use sheet::boxes;
 // Still to look at are `records` records from `record_at` on, and then `points` points from `point_at` on. At hand is
 // the first of these, and `place` and `length` are its line. The last two are the file's, so that no turn reads them
 // again.
-#[derive(Drop)]
+#[derive(Clone, Copy)]
 pub struct Filling {
     pub more: bool,
     pub k: usize,

@@ -13,7 +13,7 @@ use scaling::Bounds;
 use tally::{Bins, in_header};
 
 // What a header says besides the carried fields.
-#[derive(Drop)]
+#[derive(Clone, Copy)]
 pub struct HeadTotals {
     pub offset: u64,
     pub records: u64,

@@ -1,5 +1,7 @@
 // The release: cuts a sample out of a LAS 1.2 file under a keep sheet, so that the output shows the public part and
 // nothing else. `cutting` lists which parts go out, and `by_list` releases from that list.
+#![tactic(auto)]
+
 mod assembly;
 mod box_index;
 pub mod by_list;

@@ -16,7 +16,7 @@ use lasfile::{header, vlr};
 use sheet::lookup;
 
 // How many records are kept, and where they end in a released file: its points begin there.
-#[derive(Drop)]
+#[derive(Clone, Copy)]
 pub struct KeptRecords {
     pub count: usize,
     pub end: usize,

@@ -12,7 +12,7 @@ use publicpart::{Answer, Span};
 
 // Where the writing stands: line k comes next, and goes to the place `to`. The first `records` of the lines are for
 // payloads. `more` says that there is a line k.
-#[derive(Drop)]
+#[derive(Clone, Copy)]
 pub struct Writing {
     pub more: bool,
     pub k: usize,

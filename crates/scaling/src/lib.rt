@@ -1,4 +1,6 @@
 // The six scales and offsets of a header as one record of doubles, and the coordinates and bounds that they give.
+#![tactic(auto)]
+
 pub mod doubles;
 
 ghost use Rattle.std.specs.Prelude.{◌≡◌};
@@ -34,7 +36,7 @@ fn good_offset(x: f64) -> bool
 }
 
 // The scales and offsets of a header.
-#[derive(Drop)]
+#[derive(Clone, Copy)]
 pub struct Scaling {
     pub x_scale: f64,
     pub y_scale: f64,
@@ -52,7 +54,7 @@ pub struct Coordinates {
 }
 
 // The stored values that the bounds are the coordinates of, in the header's order.
-#[derive(Drop)]
+#[derive(Clone, Copy)]
 pub struct Extremes {
     pub max_x: i32,
     pub min_x: i32,
@@ -63,7 +65,7 @@ pub struct Extremes {
 }
 
 // The bits of the bounds, in the header's order.
-#[derive(Drop)]
+#[derive(Clone, Copy)]
 pub struct Bounds {
     pub max_x: u64,
     pub min_x: u64,

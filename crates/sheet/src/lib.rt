@@ -1,4 +1,6 @@
 // The keep sheet: its lines and checks, and which classes, records and points it keeps.
+#![tactic(auto)]
+
 pub mod answers;
 pub mod boxes;
 pub mod class_table;

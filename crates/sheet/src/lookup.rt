@@ -7,7 +7,7 @@ ghost use Rattle.sheet.specs.Keeping.{contains_class, names_record, keeps_class,
 use fields::{slices, text};
 
 // What is looked for on a sheet: a class, or a record's ID beside its user ID.
-#[derive(Drop)]
+#[derive(Clone, Copy)]
 enum Sought {
     Class(u8),
     Record(u16),

@@ -1,5 +1,4 @@
 pub mod CountLaws
-pub mod Local
 pub mod RunLaws
 pub mod TallyLaws
 pub mod BoundsLaws

@@ -1,4 +1,6 @@
 // Counts, bins and bounds of points.
+#![tactic(auto)]
+
 mod by_return;
 mod extremes;
 pub mod in_header;
@@ -16,7 +18,7 @@ use points::raw::Stored;
 use scaling::{Bounds, Extremes, Scaling};
 
 // How many points have the return numbers 1 to 5.
-#[derive(Drop)]
+#[derive(Clone, Copy)]
 pub struct Bins {
     pub first: u64,
     pub second: u64,
@@ -26,7 +28,7 @@ pub struct Bins {
 }
 
 // The number of points, points by return, and the extremes of the stored coordinates.
-#[derive(Drop)]
+#[derive(Clone, Copy)]
 pub struct Tally {
     pub count: u64,
     pub bins: Bins,

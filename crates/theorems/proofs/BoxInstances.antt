@@ -82,6 +82,7 @@ accepted = record { bytes = good.0.bytes; answer = refl }
 
 -- every line is of kind 1 or 3
 second_line : (x y l : Bytes) → Memᴰ l (x ∷ y ∷ []) → kind x ≡ 1 → kind l ≡ 3 → l ≡ y
+second_line x y l (mathlib.Core.List.Memᴰ.tail (mathlib.Core.List.Memᴰ.tail x11)) a b = elim x11 [ ]
 second_line x y l (Memᴰ.head q) a b = absurd (let z : ◌≡◌ {A = ℕ} 1 3 = sym a ∙ ap kind (sym q) ∙ b in omega (arith, z))
 second_line x y l (Memᴰ.tail (Memᴰ.head q)) a b = q
 

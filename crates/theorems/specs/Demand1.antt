@@ -1,6 +1,6 @@
 -- Demand 1: a refusal changes nothing lent and has zeros beside its number, and each number is given exactly under its
--- own condition where no earlier one holds. `las_coordinate` and `las_level` cannot refuse. What the program alone gives,
--- 50 and 51, is the first failing check of `input_checks`: the two laws of tables say when.
+-- own condition where no earlier one holds. `las_coordinate` and `las_level` cannot refuse. What the program alone
+-- gives, 50 and 51, is the first failing check of `input_checks`: the two laws of tables say when.
 -- Assumes nothing.
 use Rattle.std.specs.Prelude.{◌≡◌, ◌↔◌, ℕ, suc, false, List, ◌++◌, replicate}
 use Rattle.fields.specs.Bytes.{Bytes}

@@ -1,1 +1,2 @@
 // What is proved of all of it.
+#![tactic(auto)]

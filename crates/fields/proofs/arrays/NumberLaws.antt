@@ -35,6 +35,7 @@ pub numbers_part : (s : Bytes) (at w i : ℕ) (ns : List ℕ) → part at (lengt
 numbers_part s at w i ns e h = sym (part-part at (length ns * w) (i * w) w s (fits w i (length ns) h)) ∙ ap (part (i * w) w) e ∙ numbers_at w ns i h
   where
     fits : (w i n : ℕ) → i < n → i * w + w ≤ n * w
+    fits w i zero h = elim h [ ]
     fits w i (suc n) h = omega (arith, mul-le-mul_right w (le_of_suc-le-suc h))
 
 -- and read back

@@ -1,7 +1,7 @@
 -- Laws of records: the walk step by step, those of a file are sound, and sound records are read back.
 -- Assumes nothing.
 use mathlib.Core.Path.{◌≡◌, refl, ap, ◌∙◌}
-use Prim.Native.Nat.{ℕ, zero, suc, ◌+◌, ◌-◌, ◌≤◌, ◌<◌}
+use Prim.Native.Nat.{ℕ, zero, suc, ◌+◌, ◌≤◌, ◌<◌}
 use native.Mathlib.Nat.{not-suc-le-zero}
 use native.Mathlib.Omega.{arith}
 use mathlib.Core.List.{List, [], ◌∷◌, ◌++◌, map, append_assoc}
@@ -9,7 +9,7 @@ use lib.ListN.{length, get_or, take, drop, length-append, length-drop}
 use lib.Seq.{drop_at}
 use lib.Dec.{lit<}
 use Rattle.fields.specs.Lists.{All, total}
-use Rattle.fields.specs.Bytes.{Bytes, AllBytes, part, num, bytes_of, join, Fit, start}
+use Rattle.fields.specs.Bytes.{Bytes, AllBytes, part, num, join, Fit, start}
 use Rattle.fields.specs.Text.{cut, padded}
 use Rattle.lasfile.specs.Records.{Record, record_widths, front_size, payload_length, record_of, size_of, places, walk, walk_end, record_fields, record_bytes, written_length, records_bytes, SoundRecord}
 use Rattle.fields.proofs.ByteLaws.{num-bytes_of, length-bytes_of, num-part-lt, length_part, part-take, field_back, length-join, drop_bytes}

@@ -5,7 +5,7 @@ use Prim.Native.Nat.{ℕ, ◌+◌}
 use lib.ListN.{drop}
 use lib.Dec.{ltb}
 use Rattle.fields.specs.Bytes.{Bytes}
-use Rattle.fields.specs.Checks.{first_failing, then, Test, ◌below◌, not_so, ◌or◌, Clear}
+use Rattle.fields.specs.Checks.{first_failing, Test, ◌below◌, not_so, ◌or◌, Clear}
 use Rattle.fields.specs.declared.Verdict.TheVariants.{Passes, Fails}
 use Rattle.fields.proofs.CheckLaws.{Broken, first_fails, all_clear, then_passes, then_fails}
 use Rattle.lasfile.specs.Records.{size_of}

@@ -58,8 +58,9 @@ module _ (s : Bytes) where
   unfolding items_from join
   items_both k [] ps = items_points (k + 0) k ps (omega arith)
   items_both k (l ∷ ls) ps =
-      let e : k + suc (length ls) ≡ suc k + length ls = omega arith in
-      rw (item_record s (k + suc (length ls)) k l (omega arith), append_assoc, e) (ap (λ (r : Bytes). record_from s l ++ r) (items_both (suc k) ls ps))
+      let e : k + length (l ∷ ls) ≡ suc k + length ls = omega arith in
+      rw (item_record s (k + suc (length ls)) k l (omega arith), append_assoc)
+      (ap (λ (r : Bytes). record_from s l ++ r) (ap (λ (n : ℕ). items_from s n (suc k) (ls ++ ps)) e ∙ items_both (suc k) ls ps))
 
   records_from : (sheet : Bytes) (n at : ℕ) → map (record_from s) (payload_lines sheet s n at) ≡ map (record_bytes 2) (kept (sheet_keeps sheet) (walk 2 n at s))
   unfolding record_from

@@ -1,4 +1,4 @@
--- Where the loop of `write_lines` stands, and all that its walk asks of it: no line of this file is about code.
+-- Where the loop of `write_lines` stands, and all that its proof asks of it: no line of this file is about code.
 -- Assumes nothing.
 use mathlib.Core.Path.{◌≡◌, refl, sym, ap, ◌∙◌}
 use Prim.Native.Nat.{ℕ, suc, ◌+◌, ◌-◌, ◌^◌, ◌≤◌, ◌<◌}
@@ -6,16 +6,10 @@ use native.Mathlib.Numerals.{add-one}
 use native.Mathlib.Omega.{arith}
 use mathlib.Core.Bool.{true, false}
 use mathlib.Core.List.{List, [], ◌∷◌, ◌++◌, append_assoc, append-nil}
-use mathlib.Core.WellFounded.InvImage
-use mathlib.Core.WellFounded.{WellFounded}
 use borrow.Author.Tests.{ltb-true, ltb-false}
-use lib.WfN.{lt-wf_rel}
 use lib.Dec.{ltb}
 use lib.ListN.{length, get_or, length-append}
 use lib.Seq.{sets, length-sets, slice, slice-cons, length-slice}
-use mir.Val.{Val}
-use denote.Laws.{Is}
-use denote.Struct.Laws as LL
 use Rattle.fields.specs.Bytes.{Bytes}
 use Rattle.fields.proofs.StoreLaws.{sets-append}
 use Rattle.lasfile.specs.HeaderFields.{header_block}
@@ -25,11 +19,6 @@ use Rattle.publicpart.specs.declared.Answer.{Answer}
 use Rattle.publicpart.specs.declared.Answer.TheVariants.{Released, Short, Refused}
 use Rattle.release.specs.declared.writing.Writing.{Writing}
 use Rattle.release.specs.Writing.{item_bytes, items_from, lines_in, records_in, items, writing_of, writing_after, ItemsFit, with_items}
-use Rattle.release.specs.contracts.writing.Writing as U
-use Rattle.release.proofs.writing.Writing.TheLaws as U'
-
-abbrev pub tval : Writing → Val
-tval = LL.val U.the_type U'.the_laws
 
 length_none : (ls : List Span) → length ls ≡ 0 → ls ≡ []
 length_none [] e = refl
@@ -68,98 +57,83 @@ follows a t n m b s = record {
 
 -- the writing stands at t, and the output is zs: what was put stands behind the header, and with the bytes of the lines
 -- from k on it is all that is to be put
-pub record Written (s : Bytes) (list : List Span) (a : Answer) (out : Bytes) : Type 0 where
-  pub t : Writing
-  pub zs : Bytes
+pub record Written (s : Bytes) (list : List Span) (a : Answer) (out : Bytes) (t : Writing) (zs : Bytes) : Type 0 where
   pub put : Bytes
   pub stands : Stands a t (length put)
   pub all : put ++ items_left s list a t.k ≡ items s list a
   pub is : zs ≡ sets out header_block put
-  pub good : Is U.the_row t (tval t ∷ [])
 
-module _ (s : Bytes) (list : List Span) (a : Answer) (out : Bytes) (fits : ItemsFit s list a (length out)) where
-  abbrev pub lines_left : Written s list a out → ℕ
-  lines_left w = lines_in a - w.t.k
-
-  abbrev pub Nearer : Written s list a out → Written s list a out → Type 0
-  Nearer w' w = lines_left w' < lines_left w
-
-  pub Nearer-wf : WellFounded Nearer
-  Nearer-wf = InvImage.wf lines_left lt-wf_rel.wf
-
-  -- as many lines as there are in a list can be counted
-  pub counts : length list < 2 ^ 64 → lines_in a < 2 ^ 64
-  counts h = let l = fits.lines in omega arith
-
-  pub first_stands : (t : Writing) → t ≡ writing_of a → Stands a t 0
+module _ (s : Bytes) (list : List Span) (a : Answer) (out : Bytes) where
+  first_stands : (t : Writing) → t ≡ writing_of a → Stands a t 0
   first_stands t e = rw e (begins a)
 
-  pub first_all : (t : Writing) → t ≡ writing_of a → items_left s list a t.k ≡ items s list a
+  first_all : (t : Writing) → t ≡ writing_of a → items_left s list a t.k ≡ items s list a
   unfolding items
   first_all t e = rw (e, begins_at a)
 
-  abbrev pub first_turn : (t : Writing) → t ≡ writing_of a → Is U.the_row t (tval t ∷ []) → Written s list a out
-  first_turn t e g = record { t = t; zs = out; put = []; stands = first_stands t e; all = first_all t e; is = refl; good = g }
+  pub first_turn : (t : Writing) → t ≡ writing_of a → Written s list a out t out
+  first_turn t e = record { put = []; stands = first_stands t e; all = first_all t e; is = refl }
 
-  pub long : (w : Written s list a out) → length w.zs ≡ length out
-  long w = ap length w.is ∙ length-sets out header_block w.put
+  module _ (fits : ItemsFit s list a (length out)) (t : Writing) (zs : Bytes) (w : Written s list a out t zs) where
+    long : length zs ≡ length out
+    long = ap length w.is ∙ length-sets out header_block w.put
 
-  module _ (w : Written s list a out) (yes : w.t.more ≡ true) where
-    pub before : w.t.k < lines_in a
-    before = ltb-true w.t.k (lines_in a) (sym w.stands.test ∙ yes)
+    module _ (yes : t.more ≡ true) where
+      before : t.k < lines_in a
+      before = ltb-true t.k (lines_in a) (sym w.stands.test ∙ yes)
 
-    pub has_line : w.t.k < length list
-    has_line = let b = before in let l = fits.lines in omega arith
+      pub has_line : t.k < length list
+      has_line = let b = before in let l = fits.lines in omega arith
 
-    module _ (l : Span) (e : l ≡ get_or list w.t.k (span 0 0)) where
-      abbrev pub here : Bytes
-      here = item_bytes s w.t.records w.t.k l
+      module _ (l : Span) (e : l ≡ get_or list t.k (span 0 0)) where
+        abbrev here : Bytes
+        here = item_bytes s t.records t.k l
 
-      -- the bytes of line k, and of those behind it
-      left_is : here ++ items_left s list a (suc w.t.k) ≡ items_left s list a w.t.k
-      unfolding items_from
-      left_is = rw (e, w.stands.front, slice-cons w.t.k (lines_in a) list (span 0 0) before fits.lines)
+        -- the bytes of line k, and of those behind it
+        left_is : here ++ items_left s list a (suc t.k) ≡ items_left s list a t.k
+        unfolding items_from
+        left_is = rw (e, w.stands.front, slice-cons t.k (lines_in a) list (span 0 0) before fits.lines)
 
-      all_is : (w.put ++ here) ++ items_left s list a (suc w.t.k) ≡ items s list a
-      all_is = append_assoc w.put here _ ∙ ap (λ (r : Bytes). w.put ++ r) left_is ∙ w.all
+        all_is : (w.put ++ here) ++ items_left s list a (suc t.k) ≡ items s list a
+        all_is = append_assoc w.put here _ ∙ ap (λ (r : Bytes). w.put ++ r) left_is ∙ w.all
 
-      pub has_room : (w.t.k < w.t.lines) × (w.t.to + length here ≤ length w.zs)
-      has_room =
-          let b = before in
-          let f = w.stands.few in
-          let g = long w in
-          let p = w.stands.behind b in
-          let r = fits.within (omega arith) in
-          let n : length (w.put ++ here) + length (items_left s list a (suc w.t.k)) ≡ length (items s list a) =
-          sym (length-append (w.put ++ here) _) ∙ ap length all_is in
-          let m : length (w.put ++ here) ≡ length w.put + length here = length-append w.put here in
-          (omega arith, omega arith)
+        pub has_room : (t.k < t.lines) × (t.to + length here ≤ length zs)
+        has_room =
+            let b = before in
+            let f = w.stands.few in
+            let g = long in
+            let p = w.stands.behind b in
+            let r = fits.within (omega arith) in
+            let n : length (w.put ++ here) + length (items_left s list a (suc t.k)) ≡ length (items s list a) =
+            sym (length-append (w.put ++ here) _) ∙ ap length all_is in
+            let m : length (w.put ++ here) ≡ length w.put + length here = length-append w.put here in
+            (omega arith, omega arith)
 
-      module _ (t' : Writing) (e' : t' ≡ writing_after w.t (length here)) where
-        pub next_stands : Stands a t' (length (w.put ++ here))
-        next_stands = rw (e', length-append w.put here) (follows a w.t (length w.put) (length here) before w.stands)
+        module _ (t' : Writing) (e' : t' ≡ writing_after t (length here)) where
+          next_stands : Stands a t' (length (w.put ++ here))
+          next_stands = rw (e', length-append w.put here) (follows a t (length w.put) (length here) before w.stands)
 
-        pub next_all : (w.put ++ here) ++ items_left s list a t'.k ≡ items s list a
-        next_all = rw (e', add-one) all_is
+          next_all : (w.put ++ here) ++ items_left s list a t'.k ≡ items s list a
+          next_all = rw (e', add-one) all_is
 
-        pub next_is : (zs' : Bytes) → zs' ≡ sets w.zs w.t.to here → zs' ≡ sets out header_block (w.put ++ here)
-        next_is zs' q = q ∙ rw (w.is, w.stands.behind before) (sym (sets-append out header_block w.put here))
+          next_is : (zs' : Bytes) → zs' ≡ sets zs t.to here → zs' ≡ sets out header_block (w.put ++ here)
+          next_is zs' q = q ∙ rw (w.is, w.stands.behind before) (sym (sets-append out header_block w.put here))
 
-        pub nearer : lines_in a - t'.k < lines_left w
-        nearer = let b = before in rw e' (omega arith)
+          pub nearer : lines_in a - t'.k < lines_in a - t.k
+          nearer = let b = before in rw e' (omega arith)
 
-        abbrev pub next_turn : Is U.the_row t' (tval t' ∷ []) → (zs' : Bytes) → zs' ≡ sets w.zs w.t.to here → Written s list a out
-        next_turn g zs' q = record { t = t'; zs = zs'; put = w.put ++ here; stands = next_stands; all = next_all; is = next_is zs' q; good = g }
+          pub next_turn : (zs' : Bytes) → zs' ≡ sets zs t.to here → Written s list a out t' zs'
+          next_turn zs' q = record { put = w.put ++ here; stands = next_stands; all = next_all; is = next_is zs' q }
 
-  -- no line is left
-  left_none : (w : Written s list a out) → w.t.more ≡ false → items_left s list a w.t.k ≡ []
-  unfolding items_from
-  left_none w o =
-      let h = ltb-false w.t.k (lines_in a) (sym w.stands.test ∙ o) in
-      let n : length (slice w.t.k (lines_in a) list) ≡ lines_in a - w.t.k = length-slice w.t.k (lines_in a) list fits.lines in
-      rw (length_none (slice w.t.k (lines_in a) list) (omega arith))
+    -- no line is left
+    left_none : t.more ≡ false → items_left s list a t.k ≡ []
+    unfolding items_from
+    left_none o =
+        let h = ltb-false t.k (lines_in a) (sym w.stands.test ∙ o) in
+        let n : length (slice t.k (lines_in a) list) ≡ lines_in a - t.k = length-slice t.k (lines_in a) list fits.lines in
+        rw (length_none (slice t.k (lines_in a) list) (omega arith))
 
-  pub at_end : (w : Written s list a out) → w.t.more ≡ false → w.zs ≡ with_items s list a out
-  at_end w o =
-      let e : w.put ≡ items s list a = sym (append-nil w.put) ∙ ap (λ (r : Bytes). w.put ++ r) (sym (left_none w o)) ∙ w.all in
-      w.is ∙ ap (sets out header_block) e
+    pub at_end : t.more ≡ false → zs ≡ with_items s list a out
+    at_end o =
+        let e : w.put ≡ items s list a = sym (append-nil w.put) ∙ ap (λ (r : Bytes). w.put ++ r) (sym (left_none o)) ∙ w.all in
+        w.is ∙ ap (sets out header_block) e

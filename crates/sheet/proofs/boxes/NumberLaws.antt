@@ -15,9 +15,9 @@ use mir.Val.{SFits, to_z, of_z}
 use mir.ValLaws.{to_z-of_z}
 use borrow.Author.Tests.{ltb-true, eqb-true, eqb-false}
 use Rattle.fields.specs.Lists.{cons_if, kept}
-use Rattle.fields.specs.Bytes.{Bytes, num}
+use Rattle.fields.specs.Bytes.{Bytes}
 use Rattle.fields.proofs.ListLaws.{cons_if-append}
-use Rattle.sheet.specs.Sheet.{edge, first_line, after_line, lines, lines_from}
+use Rattle.sheet.specs.Sheet.{edge, first_line, after_line, lines_from}
 use Rattle.sheet.specs.Keeping.{is_box}
 use Rattle.sheet.specs.Boxes.{box_lines, Numbered, BoxesOf, TakesLine, up_to64}
 use Rattle.sheet.proofs.LineLaws.{lines_from_lem, lines_more, lines_full, lines_end}

@@ -42,6 +42,9 @@ good_scale_lem x h =
     (p, size x p e.1)
   where
     size : (x : Float) → T (positive x) → T (le x (fin false 1 (pos 20))) → SizeUpTo (2 ^ 20) x
+    size nan p k = elim p [ ]
+    size (inf _) p k = elim p [ ]
+    size (fin true n d) p k = elim p [ ]
     size (fin false n d) p k = omega (arith, le-fin false false n 1 d (pos 20) k)
 
 good_offset_lem : (x : Float) → T (good_offset x) → SizeUpTo (2 ^ 40) x
@@ -65,6 +68,9 @@ few_digits n h = omega arith
 
 product_bounded : (z : ℤ) (x : Float) → nat_abs z ≤ 2 ^ 31 → Scale x
     → SizeUpTo (2 ^ 51) (mul binary64 (of_int binary64 z) x)
+product_bounded z nan h both = elim both.0 [ ]
+product_bounded z (inf _) h both = elim both.0 [ ]
+product_bounded z (fin true n d) h both = elim both.0 [ ]
 product_bounded z (fin false n d) h (p, k) =
     rw (product_is binary64 z n d (few_digits (nat_abs z) h))
     (round_bounded binary64 (2 ^ 51) (negative z) (nat_abs z * (n * up d)) (down d) (lit≤ tt) (down_pos d)
@@ -72,6 +78,9 @@ product_bounded z (fin false n d) h (p, k) =
 
 product_order : (a b : ℤ) (x : Float) → nat_abs a ≤ 2 ^ 31 → nat_abs b ≤ 2 ^ 31 → Scale x → a ≤ℤ b
     → T (le (mul binary64 (of_int binary64 a) x) (mul binary64 (of_int binary64 b) x))
+product_order a b nan ha hb both h = elim both.0 [ ]
+product_order a b (inf _) ha hb both h = elim both.0 [ ]
+product_order a b (fin true n d) ha hb both h = elim both.0 [ ]
 product_order a b (fin false n d) ha hb (p, k) h =
     let N = n * up d in
     rw (product_is binary64 a n d (few_digits (nat_abs a) ha), product_is binary64 b n d (few_digits (nat_abs b) hb))
@@ -97,6 +106,12 @@ finite_in_order scale offset p q =
 -- ---- a file that passes number 10
 
 six : (a b c d e f : Bool) → T (a && b && c && d && e && f) → T a × T b × T c × T d × T e × T f
+six false b c d e f t = elim t [ ]
+six true false c d e f t = elim t [ ]
+six true true false d e f t = elim t [ ]
+six true true true false e f t = elim t [ ]
+six true true true true false f t = elim t [ ]
+six true true true true true false t = elim t [ ]
 six true true true true true true t = (tt, tt, tt, tt, tt, tt)
 
 all_good : (c : Scaling) → T (good_scaling c)
@@ -122,6 +137,8 @@ passing c h axis = let g = good_axis c h axis in finite_in_order (axis_scale axi
 
 not_nan : (x : Float) → T (finite x) → T (not (is_nan x))
 unfolding is_nan
+not_nan nan p = elim p [ ]
+not_nan (inf _) p = elim p [ ]
 not_nan (fin s m e) p = tt
 
 pub carried_at : (s : Bytes) (at : ℕ) → AllBytes s → T (finite (double_at s at))

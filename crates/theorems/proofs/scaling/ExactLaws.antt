@@ -20,6 +20,8 @@ times_of : (k : ℕ) (x : Float) (s : Bool) (a : ℕ) (z : ℤ) → HasValue x s
     → SameValue s a (negative z) (nat_abs z)
     → Times k x z
 unfolding Times
+times_of k lib.Ieee.nan s a z v h = elim v [ ]
+times_of k (lib.Ieee.inf _) s a z v h = elim v [ ]
 times_of k (fin t m e) s a z v h =
     rw (v.0, v.1)
     (to_signed s (negative z) (a * down e) (nat_abs z * down e) (SameValue-mul s (negative z) a (nat_abs z) (down e) h)
@@ -38,6 +40,8 @@ times_int f z h = times_of 0 (of_int f z) (negative z) (nat_abs z) z (int_value 
 pub times_product : (f : Format) (k : ℕ) (z : ℤ) (y : Float) → k ≤ low f → nat_abs z < 2 ^ prec f → Times k y (pos 1)
     → Times k (mul f (of_int f z) y) z
 unfolding Times
+times_product f k z lib.Ieee.nan kl small h = elim h [ ]
+times_product f k z (lib.Ieee.inf _) kl small h = elim h [ ]
 times_product f k z (fin true n d) kl small h = absurd (omega (arith, down_pos d, of_times k true n d (pos 1) h))
 times_product f k z (fin false n d) kl small h =
     let one : n * up d * 2 ^ k ≡ down d = omega (arith, of_times k false n d (pos 1) h) in
@@ -68,6 +72,10 @@ times-sum f k s t a b c z w kl small C p q =
 pub times_add : (f : Format) (k : ℕ) (x y : Float) (z w : ℤ) → k ≤ low f → nat_abs (z +ℤ w) < 2 ^ prec f
     → Times k x z → Times k y w → Times k (add f x y) (z +ℤ w)
 unfolding add Times
+times_add f k lib.Ieee.nan y z w kl small p q = elim p [ ]
+times_add f k (lib.Ieee.inf _) y z w kl small p q = elim p [ ]
+times_add f k (fin s m e) lib.Ieee.nan z w kl small p q = elim q [ ]
+times_add f k (fin s m e) (lib.Ieee.inf _) z w kl small p q = elim q [ ]
 times_add f k (fin s m e) (fin t n d) z w kl small p q =
     let a = m * up e in
     let b = n * up d in
@@ -83,6 +91,8 @@ times_add f k (fin s m e) (fin t n d) z w kl small p q =
 
 pub times_finer : (k : ℕ) (x : Float) (z : ℤ) → Times 0 x z → Times k x (z *ℤ pos (2 ^ k))
 unfolding Times
+times_finer k lib.Ieee.nan z h = elim h [ ]
+times_finer k (lib.Ieee.inf _) z h = elim h [ ]
 times_finer k (fin s m e) z h =
     let n = nat_abs z in
     let fine : SameValue s (m * up e * 2 ^ k) (negative z) (n * 2 ^ k * down e) =

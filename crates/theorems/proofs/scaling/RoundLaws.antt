@@ -72,22 +72,34 @@ le-fin s t m n e d h = test_Le s t (m * up e * down d) (n * up d * down e) h
 
 values_le : (x y : Float) (s t : Bool) (a c b d : ℕ) → 0 < c → 0 < d → HasValue x s a c → HasValue y t b d
     → Le s (a * d) t (b * c) → T (le x y)
+values_le nan y s t a c b d C D v w h = elim v [ ]
+values_le (inf _) y s t a c b d C D v w h = elim v [ ]
+values_le (fin s' m e) nan s t a c b d C D v w h = elim w [ ]
+values_le (fin s' m e) (inf _) s t a c b d C D v w h = elim w [ ]
 values_le (fin s' m e) (fin t' n i) s t a c b d C D v w h =
     fin-le s' t' m n e i (rw (v.0, w.0) (Le-cross s t (m * up e) (n * up i) (down e) (down i) a b c d C D v.1 w.1 h))
 
 le_values : (x y : Float) (s t : Bool) (a c b d : ℕ) → HasValue x s a c → HasValue y t b d → T (le x y)
     → Le s (a * d) t (b * c)
+le_values nan y s t a c b d v w h = elim v [ ]
+le_values (inf _) y s t a c b d v w h = elim v [ ]
+le_values (fin s' m e) nan s t a c b d v w h = elim w [ ]
+le_values (fin s' m e) (inf _) s t a c b d v w h = elim w [ ]
 le_values (fin s' m e) (fin t' n i) s t a c b d v w h =
     Le-cross s t a b c d (m * up e) (n * up i) (down e) (down i) (down_pos e) (down_pos i) (sym v.1) (sym w.1)
     (rw (v.0, w.0) at (le-fin s' t' m n e i h))
 
 pub value_finite : (x : Float) (s : Bool) (a c : ℕ) → HasValue x s a c → T (finite x)
+value_finite nan s a c v = elim v [ ]
+value_finite (inf _) s a c v = elim v [ ]
 value_finite (fin t m e) s a c v = tt
 
 -- ---- rounding a / c, where a / c ≤ B and every whole number up to B is a double
 
 not_under : (y : Float) → T (finite y) → T (le (inf false) y) → ⊥
 unfolding le
+not_under nan p h = elim p [ ]
+not_under (inf _) p h = elim p [ ]
 not_under (fin s m e) p h = h
 
 under : (f : Format) (a c : ℕ) (y : Float) → T (finite y) → T (le (round f false a c) y) → grid f a c < overflow f
@@ -205,6 +217,8 @@ like false = refl
 mul_is : (f : Format) (x : Float) (s : Bool) (a n : ℕ) (d : ℤ) → HasValue x s a 1
     → mul f x (fin false n d) ≡ round f s (a * (n * up d)) (down d)
 unfolding mul
+mul_is f nan s a n d v = elim v [ ]
+mul_is f (inf _) s a n d v = elim v [ ]
 mul_is f (fin t m e) s a n d v =
     let N = n * up d in
     let whole : m * up e ≡ a * down e = sym (mul-one (m * up e)) ∙ v.1 in
@@ -230,6 +244,8 @@ SizeUpTo B (inf s) = ⊥
 SizeUpTo B (fin s m e) = m * up e ≤ B * down e
 
 pub bounded_finite : (B : ℕ) (x : Float) → SizeUpTo B x → T (finite x)
+bounded_finite B nan h = elim h [ ]
+bounded_finite B (inf _) h = elim h [ ]
 bounded_finite B (fin s m e) h = tt
 
 pub round_bounded : (f : Format) (B : ℕ) (s : Bool) (a c : ℕ) → B ≤ 2 ^ prec f → 0 < c → a ≤ B * c
@@ -237,6 +253,8 @@ pub round_bounded : (f : Format) (B : ℕ) (s : Bool) (a c : ℕ) → B ≤ 2 ^ 
 round_bounded f B s a c held C h = of_value (round f s a c) (round_value f B held s a c C h)
   where
     of_value : (x : Float) → HasValue x s (grid f a c) (2 ^ low f) → SizeUpTo B x
+    of_value nan v = elim v [ ]
+    of_value (inf _) v = elim v [ ]
     of_value (fin t m e) v =
         let l : Le false (grid f a c * 1) false (B * 2 ^ low f) = omega (arith, grid_small f B held a c C h) in
         omega
@@ -252,6 +270,10 @@ module _ (f : Format) (A B : ℕ) (held : A + B ≤ 2 ^ prec f) where
 
   pub add-finite : (x y : Float) → SizeUpTo A x → SizeUpTo B y → T (finite (add f x y))
   unfolding add
+  add-finite nan y h k = elim h [ ]
+  add-finite (inf _) y h k = elim h [ ]
+  add-finite (fin s m e) nan h k = elim k [ ]
+  add-finite (fin s m e) (inf _) h k = elim k [ ]
   add-finite (fin s m e) (fin t n d) h k =
       let C = down e * down d in
       let r = sum_rounded f (m * up e * down d) (n * up d * down e) C s t in
@@ -263,6 +285,12 @@ module _ (f : Format) (A B : ℕ) (held : A + B ≤ 2 ^ prec f) where
   pub add_order : (x y o : Float) → SizeUpTo A x → SizeUpTo A y → SizeUpTo B o → T (le x y)
       → T (le (add f x o) (add f y o))
   unfolding add
+  add_order nan y o hx hy ho l = elim hx [ ]
+  add_order (inf _) y o hx hy ho l = elim hx [ ]
+  add_order (fin s m e) nan o hx hy ho l = elim hy [ ]
+  add_order (fin s m e) (inf _) o hx hy ho l = elim hy [ ]
+  add_order (fin s m e) (fin t n d) nan hx hy ho l = elim ho [ ]
+  add_order (fin s m e) (fin t n d) (inf _) hx hy ho l = elim ho [ ]
   add_order (fin s m e) (fin t n d) (fin u p c) hx hy ho l =
       let De = down e in
       let Dd = down d in

@@ -112,6 +112,7 @@ module _ (sheet p : Bytes) where
       )
 
 of_all : (P : Bytes → Type 0) (ls : List Bytes) → All P ls → (l : Bytes) → Memᴰ l ls → P l
+of_all P [] h l x'' = elim x'' [ ]
 of_all P (x ∷ xs) h l (Memᴰ.head q) = rw q h.0
 of_all P (x ∷ xs) h l (Memᴰ.tail m) = of_all P xs h.1 l m
 

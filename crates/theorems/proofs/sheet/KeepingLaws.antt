@@ -69,6 +69,7 @@ module _ (p : Bytes → Bool) (P : Bytes → Type 0) (says : (l : Bytes) → (p 
 
   line_some : (l : Bytes) (ls : List Bytes) → Memᴰ l ls → p l ≡ true → any_of p ls ≡ true
   unfolding any_of
+  line_some l [] x'' e = elim x'' [ ]
   line_some l (x ∷ xs) (Memᴰ.head q) e = rw (← q, e)
   line_some l (x ∷ xs) (Memᴰ.tail m) e = rw (line_some l xs m e) (or-true (p x))
 

@@ -1,0 +1,9 @@
+-- `capi::las_check_file` meets its contract. Assumes nothing.
+use mathlib.Core.Path.{◌∙◌, ap}
+use Rattle.fields.specs.Checks.{number_of}
+use Rattle.capi.specs.Interface.{las_check_file}
+use Rattle.capi.proofs.las_check_file.Goals as goal
+
+pub returns : goal.returns
+unfolding las_check_file
+returns c = c.number_of.ensures ∙ ap number_of c.check_file.ensures

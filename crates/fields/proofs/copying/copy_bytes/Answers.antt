@@ -1,0 +1,28 @@
+use mathlib.Core.Path.{◌≡◌, refl, ap, ◌∙◌}
+use mathlib.Core.List.{List}
+use Prim.Native.Nat.{ℕ, ◌+◌}
+use native.Mathlib.Omega.{arith}
+use lib.ListN.{get_or, set, length-set}
+use lib.Seq.{paste, paste-zero}
+use Rattle.fields.proofs.copying.CopyLaws.{paste_next}
+use Rattle.fields.proofs.copying.copy_bytes.Goals as goal
+
+pub loop-i-init : goal.loop-i-init
+loop-i-init c = (omega arith, refl, paste-zero c.args.dst.now c.args.at c.args.src.now)
+
+pub loop-i-preserved : goal.loop-i-preserved
+loop-i-preserved c =
+    let a = c.args in
+    let l = c.loop-i in (
+      omega arith,
+      length-set l.dst (a.at + l.i) (get_or a.src.now l.i 0) ∙ l.invariant.1,
+      ap (λ (d : List ℕ). set d (a.at + l.i) (get_or a.src.now l.i 0)) l.invariant.2
+          ∙ paste_next a.dst.now a.at a.src.now l.i (omega arith) (omega arith),
+    )
+
+pub returns : goal.returns
+returns c =
+    let a = c.args in
+    let l = c.loop-i in
+    let e : l.i ≡ a.n = omega arith in
+    l.invariant.2 ∙ ap (λ (k : ℕ). paste a.dst.now a.at a.src.now k) e

@@ -1,0 +1,41 @@
+-- `points::decode` meets its contract. Assumes nothing.
+use mathlib.Core.Path.{sym, ap, ◌∙◌}
+use lib.ListN.{length}
+use Rattle.points.specs.declared.layouts.Layout.{Layout}
+use Rattle.points.specs.declared.formats.Place.{Place}
+use Rattle.points.specs.Formats.{layout_of}
+use Rattle.points.specs.declared.Decoded.TheVariants.{Fields}
+use Rattle.points.specs.Points.{number_in}
+use Rattle.points.proofs.AnswerLaws.{refused, accepted_by, with_others, shape_found, time_there, colour_there}
+use Rattle.points.proofs.decode.Goals as goal
+
+pub returns-then-not-has_shape : goal.returns-then-not-has_shape
+returns-then-not-has_shape c =
+    let a = c.args in
+    sym (refused a.format a.record_length a.bytes.now _ c.has_shape.ensures c.if-not-has_shape.true-raw)
+
+pub time_in-requires : goal.time_in-requires
+time_in-requires c at e =
+    let a = c.args in
+    time_there a.format (length a.bytes.now) (shape_found _ _ _ _ c.has_shape.ensures c.if-not-has_shape.false-raw) c.layout_of-layout.result c.layout_of-layout.ensures at e
+
+pub colour_in-rgb-requires : goal.colour_in-rgb-requires
+colour_in-rgb-requires c at e =
+    let a = c.args in
+    colour_there a.format (length a.bytes.now) (shape_found _ _ _ _ c.has_shape.ensures c.if-not-has_shape.false-raw) c.layout_of-layout.result c.layout_of-layout.ensures at e
+
+pub returns : goal.returns
+unfolding layout_of
+returns c =
+    let a = c.args in
+    let f = a.format in
+    let s = a.bytes.now in
+    let time = ap (λ (l : Layout). l.time) c.layout_of-layout.ensures in
+    let colour = ap (λ (l : Layout). l.colour) c.layout_of-layout.ensures in
+    ap Fields
+    (with_others f s c.shared_of-point.result _ _ _ _ c.shared_of-point.ensures
+    (c.time_in.ensures ∙ ap (λ (k : Place). number_in 8 k 0 s) time)
+    (c.colour_in-rgb.ensures.0 ∙ ap (λ (k : Place). number_in 2 k 0 s) colour)
+    (c.colour_in-rgb.ensures.1 ∙ ap (λ (k : Place). number_in 2 k 2 s) colour)
+    (c.colour_in-rgb.ensures.2 ∙ ap (λ (k : Place). number_in 2 k 4 s) colour))
+    ∙ sym (accepted_by f a.record_length s _ c.has_shape.ensures c.if-not-has_shape.false-raw)
