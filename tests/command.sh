@@ -7,8 +7,7 @@ set -uo pipefail
 root=$(realpath -e -- "$(dirname -- "$0")/..") || exit 1
 scratch=$(mktemp -d) || exit 1
 trap 'rm -rf "$scratch"' EXIT
-# rt runs a program as nobody, who has to get to the temporary files
-chmod 711 "$scratch" && mkdir "$scratch/tmp" "$scratch/here" || exit 1
+mkdir "$scratch/tmp" "$scratch/here" || exit 1
 export TMPDIR=$scratch/tmp
 cd "$scratch/here" || exit 1
 command=$root/las-release
@@ -97,11 +96,15 @@ await() {
     done
 }
 
-# find_group TEXT: sets 'group' to the process group of a process that has the text among its words.
+# find_group TEXT [DIR]: sets 'group' to the process group of a process that has the text among its words, and works in
+# that folder where one is given.
 find_group() {
-    ps -A -o pgid= -o args= >"$scratch/ps"
-    group=$(TEXT=$1 awk 'index($0, ENVIRON["TEXT"]) { print $1; exit }' "$scratch/ps")
-    [[ -n $group ]]
+    local process
+    ps -A -o pid= -o pgid= -o args= >"$scratch/ps"
+    while read -r process group; do
+        [[ $# -gt 1 && $(readlink "/proc/$process/cwd") != "$2" ]] || return 0
+    done < <(TEXT=$1 awk 'index($0, ENVIRON["TEXT"]) { print $1, $2 }' "$scratch/ps")
+    return 1
 }
 
 # is_gone GROUP: no process of the group is left. One that has ended may stay in the list, as Z, until it is fetched.
@@ -117,11 +120,11 @@ launch() {
     launched=$!
 }
 
-# ends_by SIGNAL NUMBER NAME WORDS TEXT: the command that was launched has started a process with TEXT among its words;
-# the signal ends both, in some seconds, and nothing is left behind.
+# ends_by SIGNAL NUMBER NAME WORDS TEXT [DIR]: the command that was launched has started a process with TEXT among its
+# words, in that folder; the signal ends both, in some seconds, and nothing is left behind.
 ends_by() {
     local began status
-    holds "$3: it runs" await find_group "$5"
+    holds "$3: it runs" await find_group "${@:5}"
     began=$SECONDS
     kill -s "$1" "$launched"
     wait "$launched" 2>/dev/null
@@ -138,14 +141,29 @@ is_empty() {
 
 # copy_repository DIR: what ./las-release needs of it, and nothing that was proved.
 copy_repository() {
-    mkdir "$1" && cp -r "$root/las-release" "$root/README.md" "$root/crates.txt" "$root/crates" "$1" &&
-        mkdir "$1/tools" && cp "$root/tools/proving.sh" "$1/tools"
+    mkdir "$1" && cp -r "$root/las-release" "$root/README.md" "$root/crates.txt" "$1" &&
+        mkdir "$1/tools" && cp "$root/tools/proving.sh" "$1/tools" &&
+        (cd "$root" && find crates -name out -prune -o -type f -exec cp --parents -t "$1" {} +)
+}
+
+# needs CRATE..: these crates and those that crates.txt says of them, a line each.
+needs() {
+    local name
+    for name; do
+        { echo "$name"; sed -nE "s/^$name( [^:]*)?: *//p" "$root/crates.txt" | tr ' ' '\n'; } | grep .
+    done | sort -u
 }
 
 # what there is, proved; and how many crates that are
-(cd "$root" && rt check las_release) >"$scratch/rt" 2>&1 || { cat "$scratch/rt"; exit 1; }
-crates=$(sed -n 's/^rt: ok, \([0-9]*\) crates proved$/\1/p' "$scratch/rt")
-proving="proving, about 3 minutes the first time: "
+(cd "$root/crates/las_release" && rt run </dev/null) >"$scratch/rt" 2>&1 || { cat "$scratch/rt"; exit 1; }
+all= needed=las_release
+until [[ $needed == "$all" ]]; do
+    all=$needed
+    # shellcheck disable=SC2086
+    needed=$(needs $all)
+done
+crates=$(wc -l <<<"$needed")
+proving="proving, about 5 minutes the first time: "
 
 # cards, from any folder, by any name
 
@@ -253,27 +271,31 @@ said "no rt" $? 3 '' "las-release: the Rattle kit's rt is not on the PATH"
 
 fresh pipe && rm pipe/in.las && mkfifo pipe/in.las && : >pipe/out.las.part
 launch "$command" pipe
-ends_by HUP 1 "HUP to the program" '' "$root/target/bin/las_release"
+ends_by HUP 1 "HUP to the program" '' "$root/crates/las_release/out/las_release"
 holds "HUP to the program: no part is left" test ! -e pipe/out.las.part
 
 # a signal while it proves from nothing
 
 copy=$scratch/nothing
 copy_repository "$copy"
+# rt would take what it has built of the same text in the repository
+echo '// a copy' >>"$copy/crates/fields/src/lib.rt"
 fresh signalled && : >signalled/out.las.part
 launch "$copy/las-release" signalled
 holds "from nothing: it says that it proves" await grep -q "^${proving}0 of $crates crates$" "$scratch/err"
-ends_by TERM 15 "TERM to the prover" "${proving}0 of $crates crates" "$copy/crates/fields/src/lib.rt"
+ends_by TERM 15 "TERM to the prover" "${proving}0 of $crates crates" "--crate-name fields" "$copy/crates/fields"
 holds "TERM to the prover: a file that is not the program's stays" test -e signalled/out.las.part
-holds "TERM to the prover: nothing counts as proved" is_empty "$copy/target/stamp"
+holds "TERM to the prover: nothing counts as proved" test -z "$(find "$copy/crates" -name '*stamp')"
 
 # a program that is proved, and gone; in a repository with a blank in its name
 
 copy="$scratch/a copy"
 command=$copy/las-release
 copy_repository "$copy"
-# the libraries by a link, since they are large: nothing of them is proved again, and so nothing is written there
-mkdir "$copy/target" && cp -r "$root/target/stamp" "$copy/target" && ln -s "$root/target/rlib" "$copy/target/rlib"
+# its libraries as they are: nothing of them is proved again
+for name in $needed; do
+    [[ $name == las_release ]] || { mkdir "$copy/crates/$name/out" && cp -a {"$root","$copy"}/crates/"$name"/out/rlib; }
+done
 fresh built
 steps="$proving* of $crates crates"$'\n'"$proving$crates of $crates crates"
 gives "it builds" 0 "$line" "$steps" built
@@ -281,10 +303,18 @@ holds "it builds: its release" cmp built/out.las "$card/expected.las"
 holds "it builds: a line for each step, upwards" sort -uc -t: -k2n "$scratch/err"
 holds "it builds: nothing is left" is_empty "$TMPDIR"
 releases "what is built is current" built
-mv "$copy/target/bin/las_release" "$scratch/program"
-printf '#!/bin/sh\nexit 7\n' >"$copy/target/bin/las_release" && chmod +x "$copy/target/bin/las_release"
-gives "a program that says nothing" 3 '' "las-release: the program printed neither*status 7" built
-mv "$scratch/program" "$copy/target/bin/las_release"
+program=$copy/crates/las_release/out/las_release
+echo damaged >"$program"
+gives "it builds again what is damaged" 0 "$line" "$steps" built
+# a program that rt has built, in the place of which rt is made to write another
+mkdir "$scratch/fake"
+cat >"$scratch/fake/rt" <<'END_OF_FAKE'
+#!/bin/sh
+printf '#!/bin/sh\nexit 7\n' >out/las_release
+END_OF_FAKE
+chmod +x "$scratch/fake/rt"
+PATH=$scratch/fake:$PATH gives "a program that says nothing" 3 '' \
+    "las-release: the program printed neither*status 7" built
 
 # a build that fails
 
@@ -292,16 +322,16 @@ fresh unbuilt
 mv "$copy/crates/las_release/src/output.rt" "$scratch/output.rt"
 echo 'fn (' >"$copy/crates/las_release/src/output.rt"
 log=$copy/target/las-release.log
-failure="las-release: proving or building failed*rt: las_release NOT PROVED*las-release: rt ended *$log"
+failure="las-release: proving or building failed*src/output.rt:*error*las-release: rt ended *$log"
 gives "a damaged source" 3 '' "*$failure" unbuilt
-holds "a damaged source: the log" grep -q '^rt: las_release NOT PROVED' "$log"
+holds "a damaged source: the log" grep -q 'src/output.rt:.*error' "$log"
 holds "a damaged source: no out.las" test ! -e unbuilt/out.las
 mv "$scratch/output.rt" "$copy/crates/las_release/src/output.rt"
 
 # a signal where it proves again
 
 launch "$command" built
-ends_by INT 2 "INT to the prover" "*of $crates crates" "$copy/crates/las_release/src/main.rt"
+ends_by INT 2 "INT to the prover" "*of $crates crates" "--crate-name las_release" "$copy/crates/las_release"
 
 # the same by a key, on a terminal as 'script' makes one: there it is one line, written again and again
 
@@ -309,7 +339,7 @@ if type -P script >/dev/null; then
     mkfifo keys
     exec 9<>keys
     launch script -qefc "exec '$command' built" /dev/null <keys
-    holds "a terminal: it proves" await find_group "$copy/crates/las_release/src/main.rt"
+    holds "a terminal: it proves" await find_group "--crate-name las_release" "$copy/crates/las_release"
     holds "a terminal: it says so" await grep -q "$((crates - 1)) of $crates crates" "$scratch/out"
     printf '\003' >&9
     wait "$launched"

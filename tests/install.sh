@@ -8,8 +8,7 @@ set -uo pipefail
 root=$(realpath -e -- "$(dirname -- "$0")/..") || exit 1
 scratch=$(mktemp -d) || exit 1
 trap 'rm -rf "$scratch"' EXIT
-# rt runs a program as nobody, who has to get to the temporary files
-chmod 711 "$scratch" && mkdir "$scratch/tmp" "$scratch/here" "$scratch/fake" || exit 1
+mkdir "$scratch/tmp" "$scratch/here" "$scratch/fake" || exit 1
 export TMPDIR=$scratch/tmp
 unset DESTDIR KORBISHAF_LIB_DIR CARGO_TARGET_DIR PKG_CONFIG_PATH
 cd "$scratch/here" || exit 1
@@ -219,7 +218,7 @@ wanted_files=$({
 
 # a prefix that is relative and has a blank in its name
 
-proving="proving, about 3 minutes the first time: "
+proving="proving, about 5 minutes the first time: "
 working="*building the command korbishaf"
 KORBISHAF_LIB_DIR=/nowhere gives "a prefix" 0 "$(installed "$here/a prefix")" "$working" 'a prefix'
 holds "a prefix: these files and no others" test "$(files_in 'a prefix')" = "$wanted_files"
@@ -404,54 +403,56 @@ rm "$scratch/fake/cp"
 
 copy="$scratch/a copy"
 command=$copy/install
-mkdir -p "$copy/rust" && cp -r "$root/install" "$root/tools" "$root/include" "$root/crates.txt" "$root/crates" "$copy"
+mkdir -p "$copy/rust" && cp -r "$root/install" "$root/tools" "$root/include" "$root/crates.txt" "$copy"
+(cd "$root" && find crates -name out -prune -o -type f -exec cp --parents -t "$copy" {} +)
 cp -r "$root/rust/korbishaf" "$root/rust/korbishaf-cli" "$copy/rust"
 library=$copy/target/staticlib/libcapi.a
 fake cargo <<END_OF_FAKE
 mkdir -p '$copy/rust/target/release' && echo >'$copy/rust/target/release/korbishaf'
 END_OF_FAKE
 fake rt <<END_OF_FAKE
-echo "\$1" >>'$here/calls'
-if [[ \$1 == check ]]; then
-    mkdir -p target/stamp
-    shift
+name=\${PWD##*/}
+echo "\$name \$1" >>'$here/calls'
+if [[ \$name == capi ]]; then
+    mkdir -p ../{fields,points,sheet,scaling,lasfile,reader,geokeys,publicpart,tally,release,editor,capi}/out/rlib
     sleep 0.3
-    for name; do [[ -e target/stamp/\$name ]] || echo >target/stamp/\$name; done
-    printf 'rt: %s proved (1 s)\n' "\$@"
+    for made in ../*/out/rlib; do [[ -e \$made/stamp ]] || echo >"\$made/stamp"; done
 else
-    mkdir -p target/staticlib && cp '$root/target/staticlib/libcapi.a' target/staticlib/libcapi.a
+    mkdir -p out && cp '$root/target/staticlib/libcapi.a' out/libcapi_c.a
     [[ ! -e '$here/slow' ]] || { echo \$\$ >'$here/mark'; exec sleep 100; }
-    [[ ! -e '$here/unproved' ]] || { echo "rt: capi NOT PROVED"; exit 1; }
+    [[ ! -e '$here/unproved' ]] || { echo "fn capi_c::las_level: not proved; all else is"; exit 1; }
 fi
 END_OF_FAKE
 
-# proves NAME CALLS WORDS: ./install in the copy calls rt with these verbs.
+# proves NAME CALLS WORDS: ./install in the copy calls rt with these verbs, each behind the crate in whose folder.
 proves() {
     rm -f calls
     PATH=$scratch/fake:$PATH gives "$1" 0 "$(installed "$here/faked")" "$3" faked
     holds "$1: what it proves" test "$(tr '\n' ' ' <calls)" = "$2 "
 }
 
-steps="${proving}0 of 12 crates"$'\n'"${proving}11 of 12 crates"$'\n'"${proving}12 of 12 crates"$'\n'"building the*"
-last="${proving}11 of 12 crates"$'\n'"${proving}12 of 12 crates"$'\n'"building the*"
+# the notes of the twelve libraries are written one behind another, so that some steps may be said between the two
+first="${proving}0 of 13 crates"$'\n'
+last="${proving}12 of 13 crates"$'\n'"${proving}13 of 13 crates"$'\n'"building the*"
 umask 077
-proves "from nothing" "check staticlib" "$steps"
+proves "from nothing" "capi lib capi_c lib" "$first*$last"
+holds "from nothing: a line for each step, upwards" sort -uc -t: -k2n <(grep "^$proving" "$scratch/err")
 holds "from nothing: all may read" test -z "$(find faked ! -type l ! -perm -444)"
 holds "from nothing: all may enter" test -z "$(find faked -type d ! -perm -555)"
-proves "current" check "building the*"
+proves "current" "capi lib" "building the*"
 sleep 0.01
 touch "$copy/crates/capi/src/lib.rt"
-proves "a changed source" "check staticlib" "$last"
-proves "current again" check "building the*"
+proves "a changed source" "capi lib capi_c lib" "$last"
+proves "current again" "capi lib" "building the*"
 sleep 0.01
-touch "$copy/target/stamp/fields"
-proves "a crate below that was proved again" "check staticlib" "$last"
+touch "$copy/crates/fields/out/rlib/stamp"
+proves "a crate below that was proved again" "capi lib capi_c lib" "$last"
 rm "$library"
-proves "no library" "check staticlib" "$last"
+proves "no library" "capi lib capi_c lib" "$last"
 touch unproved
 rm "$library"
 PATH=$scratch/fake:$PATH gives "not proved" 3 '' \
-    "*install: proving or building failed*rt: capi NOT PROVED*status 1*$copy/target/install.log" faked
+    "*install: proving or building failed*fn capi_c::las_level: not proved*status 1*$copy/target/install.log" faked
 holds "not proved: no library" test ! -e "$library"
 rm unproved
 touch slow

@@ -8,6 +8,8 @@ root=   # the repository
 own=    # a folder for what the started commands say, and for rt's temporary files
 part=   # a file that is half made at the moment
 shown=  # how many crates were last said to be proved
+declare -A note   # of each crate that is watched: where rt notes that it is built
+declare -A below  # of each: all crates that it needs, itself among them
 
 # stop STATUS WORDS: says why, and ends with that status.
 stop() {
@@ -74,31 +76,64 @@ crates_needed() {
             n = split(needs[name], list, " ")
             for (i = 1; i <= n; i++) visit(list[i])
         }
+        # a line may say more than the name before its colon, as "capi_c staticlib: capi"
         { sub(/#.*/, "") }
-        NF > 1 { needs[$1] = $2 }
+        NF > 1 { split($1, words, " "); needs[words[1]] = $2 }
         END { visit(wanted) }' "$root/crates.txt"
 }
 
-# is_proving CRATE..: rt removes a crate's stamp before it proves the crate, and writes a new one afterwards.
+# note_of CRATE: the file in which rt notes that it has built a library or a program from the sources as they are. It
+# removes the note before it proves the crate, and writes a new one afterwards. Of a static library it has none.
+note_of() {
+    if [[ -e $root/crates/$1/src/main.rt ]]; then
+        echo "$root/crates/$1/out/$1.stamp"
+    else
+        echo "$root/crates/$1/out/rlib/stamp"
+    fi
+}
+
+# watch CRATE..: sets 'note' and 'below' for these crates.
+watch() {
+    local name
+    for name; do
+        note[$name]=$(note_of "$name")
+        below[$name]=$(crates_needed "$name")
+    done
+}
+
+# is_proving CRATE..: one of these crates has no note.
 is_proving() {
     local name
     for name; do
-        [[ -e $root/target/stamp/$name ]] || return 0
+        [[ -e ${note[$name]} ]] || return 0
     done
     return 1
 }
 
+# proved CRATE..: how many of these crates are proved as they are, by their notes. One that is older than the note of a
+# crate below is of what stood there before.
+proved() {
+    local name low number=0
+    for name; do
+        for low in ${below[$name]}; do
+            [[ -e ${note[$low]} && ! ${note[$name]} -ot ${note[$low]} ]] || continue 2
+        done
+        number=$((number + 1))
+    done
+    echo "$number"
+}
+
 # progress DONE NUMBER: says how many of so many crates are proved, where that has grown.
 progress() {
-    local words="proving, about 3 minutes the first time: $1 of $2 crates"
+    local words="proving, about 5 minutes the first time: $1 of $2 crates"
     [[ $1 -gt ${shown:--1} ]] || return
     shown=$1
     if [[ -t 2 ]]; then printf '\r%s' "$words" >&2; else printf '%s\n' "$words" >&2; fi
 }
 
-# rt's temporary files stand in the folder that is removed; it runs a program as nobody, who has to get there.
+# run_rt CRATE WORD..: rt works in a crate's folder. Its temporary files stand in the folder that is removed.
 run_rt() {
-    chmod 711 "$own" && cd -- "$root" && TMPDIR=$own exec rt "$@"
+    cd -- "$root/crates/$1" && TMPDIR=$own exec rt "${@:2}"
 }
 
 # rt_progress NUMBER CRATE..: how far rt is, of so many crates, from when one of these is being proved.
@@ -106,30 +141,36 @@ rt_progress() {
     local number=$1
     shift
     [[ -n $shown ]] || is_proving "$@" || return
-    progress "$(grep -c '^rt: [A-Za-z0-9_]* proved (' "$own/rt")" "$number"
+    progress "$(proved "$@")" "$number"
 }
 
-# rt_proves NUMBER CRATE.. -- WORD..: runs rt with these words, and says how far it is as rt_progress does. The script
-# ends where rt fails.
+# rt_proves NUMBER CRATE.. -- IN WORD..: runs rt with these words in the folder of the crate IN, and says how far it is
+# as rt_progress does. Nothing is given to rt to read, and what a program prints that it runs goes to its log. The
+# script ends where rt fails: what an earlier run has built may still be there then.
 rt_proves() {
-    local status log=$root/target/$called.log watched=()
+    local status number=$1 log=$root/target/$called.log watched=()
+    shift
     while [[ $1 != -- ]]; do
         watched+=("$1")
         shift
     done
     shift
+    watch "${watched[@]}"
     start run_rt "$@" >"$own/rt" 2>&1
     while kill -0 "$!" 2>/dev/null; do
-        rt_progress "${watched[@]}"
+        rt_progress "$number" "${watched[@]}"
         sleep 0.2
     done
     wait "$!"
     status=$?
-    rt_progress "${watched[@]}"
-    [[ $status -ne 0 ]] || return 0
+    rt_progress "$number" "${watched[@]}"
+    if [[ $status -eq 0 ]]; then
+        [[ -z $shown ]] || progress "${#watched[@]}" "$number"
+        return
+    fi
     end_progress
     mkdir -p -- "${log%/*}" && cp -- "$own/rt" "$log"
-    echo "$called: proving or building failed; the end of what rt said:" >&2
-    tail -n 12 -- "$own/rt" >&2
+    echo "$called: proving or building failed; what rt said of what is not proved:" >&2
+    grep -E '^(fn .*: (not proved|no proof)|[^ ].*error|rt: )' "$own/rt" | tail -n 12 >&2
     stop 3 "rt ended with status $status; all that it said is in $log"
 }

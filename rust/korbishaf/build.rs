@@ -1,7 +1,7 @@
-//! Links the static library: `libcapi.a`, as `rt staticlib capi` writes it, or `libkorbishaf.a`, as `./install` names
-//! it. It is looked for in the folder that the environment variable `KORBISHAF_LIB_DIR` names, and only there, where
-//! that is set; else in the repository's `target/staticlib`, and then, if this crate is one that `./install` has put
-//! under a prefix, in the `lib` of that prefix. A relative path counts from this crate's folder.
+//! Links the static library: `libcapi.a`, a copy of what `rt lib` makes of `capi_c`, or `libkorbishaf.a`, as
+//! `./install` names it. It is looked for in the folder that the environment variable `KORBISHAF_LIB_DIR` names, and
+//! only there, where that is set; else in the repository's `target/staticlib`, and then, if this crate is one that
+//! `./install` has put under a prefix, in the `lib` of that prefix. A relative path counts from this crate's folder.
 
 use std::env;
 use std::path::PathBuf;
@@ -34,7 +34,7 @@ fn main() {
     println!("cargo::rustc-link-lib=static={name}");
     if found.is_none() {
         println!(
-            "cargo::warning={} is absent: make it with `rt staticlib capi`, or name its folder in KORBISHAF_LIB_DIR",
+            "cargo::warning={} is absent: make it with `./install`, or name its folder in KORBISHAF_LIB_DIR",
             library.display()
         );
     }

@@ -40,12 +40,24 @@ impl WrongProgram {
         self.name.contains('.')
     }
 
-    /// The file of its crate that must refuse it.
-    pub fn proof(&self) -> String {
-        match self.name.rsplit_once('.') {
-            Some((file, _)) => format!("proofs/{}.antt", file.replace("::", "/")),
-            None => format!("proofs/{}/Proof.antt", self.name.replace("::", "/")),
-        }
+    /// The files of its crate that may refuse it: a law's own, or those in the folder of its function. The folder of a
+    /// function that calls itself has a '+' before its name.
+    pub fn proofs(&self) -> Vec<String> {
+        let Some((file, _)) = self.name.rsplit_once('.') else {
+            let path = self.name.replace("::", "/");
+            let (above, own) = path.rsplit_once('/').unwrap_or(("", &path));
+            let slash = if above.is_empty() { "" } else { "/" };
+            let folders = [
+                format!("proofs/{path}"),
+                format!("proofs/{above}{slash}+{own}"),
+            ];
+            let names = ["Answers", "Invariants", "Proof"];
+            return folders
+                .iter()
+                .flat_map(|folder| names.map(|name| format!("{folder}/{name}.antt")))
+                .collect();
+        };
+        vec![format!("proofs/{}.antt", file.replace("::", "/"))]
     }
 
     /// The function's own name, without its path.
@@ -122,11 +134,25 @@ mod tests {
 
     #[test]
     fn a_function_is_refused_by_its_own_proof_and_a_law_by_its_file() {
-        assert_eq!(named("m::T::f").proof(), "proofs/m/T/f/Proof.antt");
+        assert!(
+            named("m::T::f")
+                .proofs()
+                .contains(&"proofs/m/T/f/Answers.antt".to_string())
+        );
+        assert!(
+            named("m::f")
+                .proofs()
+                .contains(&"proofs/m/+f/Proof.antt".to_string())
+        );
+        assert!(
+            named("f")
+                .proofs()
+                .contains(&"proofs/+f/Proof.antt".to_string())
+        );
         assert_eq!(named("m::T::f").function(), "f");
         assert_eq!(
-            named("capi::Accepted.answer-if").proof(),
-            "proofs/capi/Accepted.antt"
+            named("capi::Accepted.answer-if").proofs(),
+            ["proofs/capi/Accepted.antt"]
         );
         assert!(named("Laws.a").is_law() && !named("f").is_law());
     }

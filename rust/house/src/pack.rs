@@ -13,7 +13,7 @@
 //! two in one are of one function or law, meet in a constant, or cannot both be replaced. What rests on what is asked
 //! of new ones alone, since file by file it says too much: many statements of one file share an edit, each refused by
 //! its own law. So to add a wrong program, write it into an edit of any name and run this. Labels that the papers in
-//! docs/ cite are set right. tests/wrong_programs.sh asks of each wrong program that its own proof is refused.
+//! docs/ cite are set right. tests/wrong_programs.py asks of each wrong program that its own proof is refused.
 
 mod clash;
 mod groups;

@@ -61,9 +61,15 @@ impl Function {
     }
 }
 
-/// Each function of a crate. A program's are open to nobody.
+/// How the names of the functions begin that C calls. They stand in a library, under the name that C knows, and a
+/// static library over it exports them.
+const FOR_C: &str = "las_";
+
+/// Each function of a crate. A program's are open to nobody, and those of a static library to C alone: what they
+/// promise is promised by the library that they call.
 pub fn functions(root: &Path, in_crate: &str) -> Result<Vec<Function>> {
     let top = files::crate_folder(in_crate).join("src");
+    let is_static = files::is_static(root, in_crate)?;
     let sources = files::with_suffix(root, &top, "rt")?;
     let hidden = modules::hidden(root, &top, &sources)?;
     let mut found = Vec::new();
@@ -75,9 +81,10 @@ pub fn functions(root: &Path, in_crate: &str) -> Result<Vec<Function>> {
                 in_crate: in_crate.to_string(),
                 module: module.clone(),
                 owner: one.owner,
+                exported: one.exported
+                    || one.public && module.is_empty() && one.name.starts_with(FOR_C),
                 name: one.name,
-                public: open && one.public,
-                exported: one.exported,
+                public: open && one.public && !is_static,
                 clauses: one.clauses,
                 body: one.body,
                 source: source.clone(),
@@ -134,6 +141,32 @@ mod tests {
     fn a_program_has_no_public_function() {
         let sample = Sample::new(&[("crates/c/src/main.rt", "pub fn main() {}\n")]);
         assert!(!functions(sample.root(), "c").unwrap()[0].public);
+    }
+
+    #[test]
+    fn a_static_library_exports_what_a_library_has() {
+        let sample = Sample::new(&[
+            ("crates.txt", "c: d\nc_c staticlib: c # for C\n"),
+            (
+                "crates/c/src/lib.rt",
+                "pub mod m;\npub fn las_f() {}\npub fn g() {}\n",
+            ),
+            ("crates/c/src/m.rt", "pub fn las_h() {}\n"),
+            (
+                "crates/c_c/src/lib.rt",
+                "pub extern \"C\" fn las_f() { c::las_f() }\n",
+            ),
+        ]);
+        let listed = |name: &str| -> Vec<(String, bool)> {
+            let found = functions(sample.root(), name).unwrap();
+            found.iter().map(|f| (f.listed_as(), f.public)).collect()
+        };
+        let open = |name: &str| (name.to_string(), true);
+        assert_eq!(
+            listed("c"),
+            [open("las_f"), open("c::g"), open("c::m::las_h")]
+        );
+        assert_eq!(listed("c_c"), [("las_f".to_string(), false)]);
     }
 
     #[test]

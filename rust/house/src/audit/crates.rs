@@ -5,14 +5,13 @@ use crate::files::{self, Result};
 use std::collections::BTreeSet;
 use std::path::Path;
 
-/// The names before the colons of crates.txt.
+/// The names before the colons of crates.txt; behind one may stand what it is, as in `NAME staticlib: ..`.
 fn listed(text: &str) -> BTreeSet<&str> {
-    let names = text
+    let heads = text
         .lines()
         .filter_map(|line| line.split(['#', ':']).next());
-    names
-        .map(str::trim)
-        .filter(|name| !name.is_empty())
+    heads
+        .filter_map(|head| head.split_whitespace().next())
         .collect()
 }
 

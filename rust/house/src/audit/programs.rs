@@ -16,10 +16,11 @@ pub fn without_input(repository: &Repository) -> Result<Vec<String>> {
     Ok(objected.collect())
 }
 
-/// Whether a change is made in a function's own code.
+/// Whether a change is made in a function's own code, or in its answers, whose goals go by the code's conditions.
 fn changes(program: &WrongProgram, change: &Change, function: &Function) -> bool {
     let code = scan::before_comment(&change.old, "//").trim();
-    program.path(&change.file) == function.source && function.body.contains(code)
+    let in_body = program.path(&change.file) == function.source && function.body.contains(code);
+    in_body || program.proofs().contains(&change.file)
 }
 
 /// Whether a function's code has one of some constants.

@@ -11,7 +11,8 @@ use std::path::Path;
 
 const WIDTH: usize = 120;
 const TABLE_WIDTH: usize = 130;
-const LEFT_OUT: [&str; 2] = ["target", ".git"];
+/// What cargo, rt and git write.
+const LEFT_OUT: [&str; 3] = ["target", "out", ".git"];
 
 /// A line that may be too wide, with its number.
 type Line<'a> = (usize, &'a str);
@@ -267,6 +268,7 @@ mod tests {
         let files = [
             ("a.rs", &code),
             ("target/a.rs", &format!("// {wide}")),
+            ("crates/c/out/a.rs", &format!("// {wide}")),
             ("a.edit", &format!("# {wide}")),
         ];
         assert!(objections(&files.map(|(name, text)| (name, text.as_str()))).is_empty());

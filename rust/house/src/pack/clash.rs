@@ -37,13 +37,17 @@ impl<'a> Clashes<'a> {
                 .into_iter()
                 .filter(|file| file.starts_with("src/"))
                 .map(str::to_string);
-            let proof = Some(program.proof()).filter(|file| imports.has(file));
+            let proofs = program
+                .proofs()
+                .into_iter()
+                .filter(|file| imports.has(file));
+            let proofs: Vec<String> = proofs.collect();
             let body = functions
                 .iter()
                 .find(|function| function.path() == program.name)
                 .map(|f| f.body.clone());
             grounds.push(Ground {
-                rests_on: imports.all_below(sources.chain(proof).collect())?,
+                rests_on: imports.all_below(sources.chain(proofs).collect())?,
                 constants: program.constants(root)?,
                 body: body.unwrap_or_default(),
             });
@@ -70,8 +74,9 @@ impl<'a> Clashes<'a> {
             .files()
             .into_iter()
             .any(|file| file.starts_with("specs/") && rests_on.contains(file));
-        let law =
-            first.is_law() && first.proof() != second.proof() && rests_on.contains(&first.proof());
+        let law = first.is_law()
+            && first.proofs() != second.proofs()
+            && first.proofs().iter().any(|file| rests_on.contains(file));
         specs || law
     }
 
@@ -109,7 +114,7 @@ mod tests {
     use crate::sample::Sample;
 
     const SOURCE: &str =
-        "ghost use Rattle·c·specs.specs.A.{x};\nconst ONE: u8 = 1;\nfn f() { ONE }\nfn g() { 2 }\n";
+        "ghost use Rattle.c.specs.A.{x};\nconst ONE: u8 = 1;\nfn f() { ONE }\nfn g() { 2 }\n";
     const PROGRAMS: &str = "file: src/lib.rt\n# f: 0\nold: { ONE }\nnew: { 0 }\n# g: 1\nold: 2\nnew: 3\n\
         # f: 2\nold: fn f() { ONE }\nnew: fn f() { 2 }\n# g: 3\nold: u8 = 1\nnew: u8 = 2\n\
         file: specs/A.antt\n# Laws.a: 4\nold: 1\nnew: 2\nfile: specs/B.antt\n# More.a: 5\nold: 1\nnew: 2\n\
@@ -124,7 +129,7 @@ mod tests {
             ("crates/c/proofs/Laws.antt", "a = x\n"),
             (
                 "crates/c/proofs/More.antt",
-                "use Rattle·c·proofs.proofs.Laws.{a};\n",
+                "use Rattle.c.proofs.Laws.{a};\n",
             ),
             ("crates/c/must-fail/e.edit", PROGRAMS),
         ]);

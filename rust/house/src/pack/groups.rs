@@ -121,7 +121,7 @@ mod tests {
             ("crates/c/specs/A.antt", "x = 1\ny = 2\nz = 3\n"),
             (
                 "crates/c/proofs/Laws.antt",
-                "use Rattle·c·specs.specs.A.{x; y; z};\n",
+                "use Rattle.c.specs.A.{x; y; z};\n",
             ),
             (
                 "crates/c/must-fail/wrong_1.edit",

@@ -62,12 +62,12 @@ fn part_of(text: &str) -> Option<(&'static str, &str)> {
         .find_map(|part| Some((part, text.strip_prefix(part)?)))
 }
 
-/// The steps of a path `.A.B..` that a text begins with.
-fn steps_of(mut text: &str) -> Vec<&str> {
+/// The steps of a path `.A.B..` that a text begins with, with what stands between them.
+fn steps_of<'a>(mut text: &'a str, between: &str) -> Vec<&'a str> {
     let mut steps = Vec::new();
-    while let Some(rest) = text.strip_prefix('.') {
+    while let Some(rest) = text.strip_prefix(between) {
         let end = rest
-            .find(|c: char| c.is_whitespace() || ".{};()".contains(c))
+            .find(|c: char| c.is_whitespace() || ".:,{};()".contains(c))
             .unwrap_or(rest.len());
         if end == 0 {
             break;
@@ -78,16 +78,17 @@ fn steps_of(mut text: &str) -> Vec<&str> {
     steps
 }
 
-/// The paths `Rattle·CRATE·specs.specs.A.B` of a text, as the part and its steps.
+/// The paths `Rattle.CRATE.specs.A.B` of a text, and `crate::specs::A::B` of a source, as the part and its steps.
 fn own_paths<'a>(text: &'a str, in_crate: &str) -> Vec<(&'static str, Vec<&'a str>)> {
-    let mut found = Vec::new();
-    for rest in text.split(&format!("Rattle·{in_crate}·")).skip(1) {
-        let path = part_of(rest)
-            .and_then(|(part, rest)| Some((part, part_of(rest.strip_prefix('.')?)?.1)));
-        if let Some((part, rest)) = path {
-            found.push((part, steps_of(rest)));
-        }
-    }
+    let head = format!("Rattle.{in_crate}.");
+    let named = text.split(head.as_str()).skip(1);
+    let mut found: Vec<_> = named
+        .filter_map(|rest| part_of(rest).map(|(part, rest)| (part, steps_of(rest, "."))))
+        .collect();
+    let inside = text.split("crate::").skip(1);
+    found.extend(
+        inside.filter_map(|rest| part_of(rest).map(|(part, rest)| (part, steps_of(rest, "::")))),
+    );
     found
 }
 
@@ -98,8 +99,9 @@ mod tests {
 
     #[test]
     fn paths_of_the_own_crate() {
-        let text = "use Rattle·c·specs.specs.A.B.{x};\nuse Rattle·c·proofs.proofs.m.Laws;\n\
-            use Rattle·d·specs.specs.N.{y};\nuse Rattle·c·src.lib;\n(Rattle·c·specs.specs.E.f)";
+        let text = "use Rattle.c.specs.A.B.{x};\nuse Rattle.c.proofs.m.Laws;\n\
+            use Rattle.d.specs.N.{y};\nuse Rattle.c.src.lib;\n(Rattle.c.specs.E.f)\n\
+            #[tactic(auto, using(crate::proofs::m::Laws::a, crate::f))]";
         let found = own_paths(text, "c");
         let specs = |steps: &[&'static str]| ("specs", steps.to_vec());
         assert_eq!(
@@ -107,7 +109,8 @@ mod tests {
             [
                 specs(&["A", "B"]),
                 ("proofs", vec!["m", "Laws"]),
-                specs(&["E", "f"])
+                specs(&["E", "f"]),
+                ("proofs", vec!["m", "Laws", "a"]),
             ]
         );
     }
@@ -115,14 +118,11 @@ mod tests {
     #[test]
     fn a_file_rests_on_those_below_the_ones_that_it_names() {
         let sample = Sample::new(&[
-            (
-                "crates/c/src/lib.rt",
-                "ghost use Rattle·c·specs.specs.A.{x};\n",
-            ),
-            ("crates/c/specs/A.antt", "use Rattle·c·specs.specs.m.B.y;\n"),
+            ("crates/c/src/lib.rt", "ghost use Rattle.c.specs.A.{x};\n"),
+            ("crates/c/specs/A.antt", "use Rattle.c.specs.m.B.y;\n"),
             (
                 "crates/c/specs/m/B.antt",
-                "use Rattle·c·specs.specs.A.{x};\nuse Rattle·c·specs.specs.Gone;\n",
+                "use Rattle.c.specs.A.{x};\nuse Rattle.c.specs.Gone;\n",
             ),
             ("crates/c/specs/C.antt", ""),
         ]);

@@ -41,16 +41,23 @@ pub fn functions_in(text: &str) -> Vec<Declared> {
         .collect()
 }
 
-/// The tokens of each `impl TYPE { .. }`, and its type.
+/// The tokens of each `impl TYPE { .. }` and `impl TRAIT for TYPE { .. }`, and the name that its functions go by: TYPE,
+/// or TYPE and TRAIT in one, as rt says them.
 fn owners(tokens: &[Token]) -> Vec<(Range<usize>, String)> {
     let mut found = Vec::new();
     for (at, three) in tokens.windows(3).enumerate() {
-        if three[0].text == "impl" && three[1].is_word() && three[2].text == "{" {
-            found.push((
-                at..scan::past_bracket(tokens, at + 2),
-                three[1].text.to_string(),
-            ));
+        if !three[1].is_word() || three[2].text != "{" {
+            continue;
         }
+        let of_trait = match three[0].text {
+            "impl" => "",
+            "for" => tokens[at - 1].text,
+            _ => continue,
+        };
+        found.push((
+            at..scan::past_bracket(tokens, at + 2),
+            format!("{}{of_trait}", three[1].text),
+        ));
     }
     found
 }
@@ -91,6 +98,17 @@ fn next_of(tokens: &[Token], at: usize, wanted: &[&str]) -> usize {
     found.map_or(tokens.len(), |steps| at + steps)
 }
 
+/// The brace of the clause that begins at `at`, if one does: `ensures {`, `ensures name {`, `ensures* name {`.
+fn clause_opens(tokens: &[Token], at: usize) -> Option<usize> {
+    ["requires", "ensures"]
+        .contains(&tokens.get(at)?.text)
+        .then_some(())?;
+    let starred = tokens.get(at + 1)?.text == "*";
+    let named = at + 1 + usize::from(starred);
+    let opens = named + usize::from(tokens.get(named)?.is_name());
+    (tokens.get(opens)?.text == "{").then_some(opens)
+}
+
 /// The clauses behind a function's parameters and result, and the token behind them.
 fn contract(code: &str, tokens: &[Token], at: usize) -> (Vec<Clause>, usize) {
     let parameters = next_of(tokens, at, &["("]);
@@ -103,11 +121,11 @@ fn contract(code: &str, tokens: &[Token], at: usize) -> (Vec<Clause>, usize) {
         &["requires", "ensures", "{"],
     );
     let mut clauses = Vec::new();
-    while let [kind, brace, ..] = &tokens[at..] {
-        if !["requires", "ensures"].contains(&kind.text) || brace.text != "{" {
+    while let Some(kind) = tokens.get(at) {
+        let Some(opens) = clause_opens(tokens, at) else {
             break;
-        }
-        let past = scan::past_bracket(tokens, at + 1);
+        };
+        let past = scan::past_bracket(tokens, opens);
         clauses.push(Clause {
             kind: kind.text.to_string(),
             first: scan::line_at(code, kind.at),
@@ -151,7 +169,7 @@ mod tests {
 
     #[test]
     fn a_contract_and_a_body() {
-        let text = "pub fn f(a: &[u8; 4], g: (u8, u8)) -> usize\n    requires { (a) }\n    ensures {\n  λ r. {r} }\n{\n\
+        let text = "pub fn f(a: &[u8; 4], g: (u8, u8)) -> usize\n    requires { (a) }\n    ensures {\n  {result} }\n{\n\
             // }\n    b\"}\"\n}\nconst A: usize = 1;";
         let function = only(text);
         let lines: Vec<(&str, usize, usize)> = function
@@ -161,6 +179,28 @@ mod tests {
             .collect();
         assert_eq!(lines, [("requires", 2, 2), ("ensures", 3, 4)]);
         assert_eq!(function.body, "{\n    \n    b\"}\"\n}");
+    }
+
+    #[test]
+    fn clauses_with_names_and_stars() {
+        let text = "pub fn f(a: u8) -> u8\n    requires low { a < 9 }\n    requires* { b }\n    ensures* kept { c }\n\
+            \n    ensures exact { result ≡ a }\n{\n    a\n}";
+        let function = only(text);
+        let kinds: Vec<(&str, usize)> = function
+            .clauses
+            .iter()
+            .map(|clause| (clause.kind.as_str(), clause.first))
+            .collect();
+        assert_eq!(
+            kinds,
+            [
+                ("requires", 2),
+                ("requires", 3),
+                ("ensures", 4),
+                ("ensures", 6)
+            ]
+        );
+        assert_eq!(function.body, "{\n    a\n}");
     }
 
     #[test]
@@ -174,10 +214,14 @@ mod tests {
     #[test]
     fn methods_have_their_type() {
         let found = functions_in(
-            "impl A {\n    pub fn f() { if a { b } }\n    fn g() {}\n}\nfn h() {}\nimpl B { fn k() {} }",
+            "impl A {\n    pub fn f() { if a { b } }\n    fn g() {}\n}\nfn h() {}\nimpl B { fn k() {} }\n\
+            impl fmt::Display for B { fn l() { for a in b {} } }",
         );
         let owners: Vec<Option<&str>> = found.iter().map(|one| one.owner.as_deref()).collect();
-        assert_eq!(owners, [Some("A"), Some("A"), None, Some("B")]);
+        assert_eq!(
+            owners,
+            [Some("A"), Some("A"), None, Some("B"), Some("BDisplay")]
+        );
     }
 
     #[test]
