@@ -3,7 +3,7 @@
  *
  * Korbishaf reads LAS 1.2 files (point formats 0 to 3), mends their headers,
  * releases samples of them under a keep sheet and lists which parts go out. Link
- * with libcapi.a, which `rt staticlib capi` writes to target/staticlib, or with
+ * with libcapi.a, which `tools/staticlib` writes to target/staticlib, or with
  * -lkorbishaf where `./install` has put it.
  *
  * Rules that hold for every function:

@@ -8,7 +8,7 @@ use fields::refusals;
 use sheet::answers;
 
 #[repr(C)]
-#[derive(Drop)]
+#[derive(Clone, Copy)]
 pub struct las_released {
     pub number: u64,
     pub length: u64,
@@ -17,21 +17,21 @@ pub struct las_released {
 }
 
 #[repr(C)]
-#[derive(Drop)]
+#[derive(Clone, Copy)]
 pub struct las_listed {
     pub number: u64,
     pub lines: u64,
 }
 
 #[repr(C)]
-#[derive(Drop)]
+#[derive(Clone, Copy)]
 pub struct las_kept {
     pub number: u64,
     pub kept: u64,
 }
 
 #[repr(C)]
-#[derive(Drop)]
+#[derive(Clone, Copy)]
 pub struct las_class_line {
     pub number: u64,
     pub kept: u64,
@@ -39,7 +39,7 @@ pub struct las_class_line {
 }
 
 #[repr(C)]
-#[derive(Drop)]
+#[derive(Clone, Copy)]
 pub struct las_mended {
     pub number: u64,
     pub marks: [u64; 12],

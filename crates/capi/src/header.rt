@@ -8,7 +8,7 @@ use scaling::doubles::bits_of;
 
 // Scales, offsets and bounds are the 64 bits of doubles, in the header's own order.
 #[repr(C)]
-#[derive(Drop)]
+#[derive(Clone, Copy)]
 pub struct las_header {
     pub number: u64,
     pub file_source_id: u64,

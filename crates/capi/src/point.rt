@@ -6,7 +6,7 @@ use reader::point;
 
 // The flags are 0 or 1 in an answer; in a point that is given, anything but 0 is yes.
 #[repr(C)]
-#[derive(Drop)]
+#[derive(Clone, Copy)]
 pub struct las_point {
     pub number: u64,
     pub place: u64,

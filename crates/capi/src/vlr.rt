@@ -7,7 +7,7 @@ use geokeys::{DOUBLES, TEXTS};
 use reader::cursor;
 
 #[repr(C)]
-#[derive(Drop)]
+#[derive(Clone, Copy)]
 pub struct las_record {
     pub number: u64,
     pub user_place: u64,
@@ -22,7 +22,7 @@ pub struct las_record {
 }
 
 #[repr(C)]
-#[derive(Drop)]
+#[derive(Clone, Copy)]
 pub struct las_geokey {
     pub number: u64,
     pub location: u64,
@@ -32,7 +32,7 @@ pub struct las_geokey {
 
 // What a lookup by halving finds, and how many entries it read.
 #[repr(C)]
-#[derive(Drop)]
+#[derive(Clone, Copy)]
 pub struct las_geokey_read {
     pub number: u64,
     pub location: u64,

@@ -14,7 +14,7 @@ use tally::{Tally, in_header};
 
 // The first check that fails; and whether the bytes of each mended field changed: number of points, points by return 1
 // to 5, max X, min X, max Y, min Y, max Z, min Z.
-#[derive(Drop)]
+#[derive(Clone, Copy)]
 pub struct Mended {
     pub verdict: Verdict,
     pub marks: [bool; 12],

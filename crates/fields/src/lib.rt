@@ -10,7 +10,7 @@ pub mod slices;
 pub mod text;
 
 // What a table of checks says: that all pass, or the number of the first that fails.
-#[derive(Drop)]
+#[derive(Clone, Copy)]
 pub enum Verdict {
     Passes,
     Fails(u64),

@@ -10,14 +10,14 @@ use crate::{DirectoryAt, ENTRY, Found, GeoKey, at_entry, find_directory, payload
 use fields::numbers::number_at;
 
 // What a lookup found, or its number, and how many entries of the directory it read.
-#[derive(Drop)]
+#[derive(Clone, Copy)]
 pub struct KeyRead {
     pub found: GeoKey,
     pub reads: u64,
 }
 
 // The place of an entry, if one was found, and how many were read.
-#[derive(Drop)]
+#[derive(Clone, Copy)]
 struct Search {
     found: Found,
     reads: u64,

@@ -17,7 +17,7 @@ use lasfile::vlr::{FRONT, RECORD_ID, USER_ID};
 use lasfile::{header, vlr};
 
 // A key's value: a number, a double's 64 bits, a text's place in the file and its length; or a refusal's number.
-#[derive(Drop)]
+#[derive(Clone, Copy)]
 pub enum GeoKey {
     Value(u64),
     Double(u64),
@@ -42,14 +42,14 @@ const COUNT: usize = 4;
 
 const VALUE_OFFSET: usize = 6;
 
-#[derive(Drop)]
+#[derive(Clone, Copy)]
 pub(crate) enum Found {
     At(usize),
     Nothing,
 }
 
 // The place of the record whose payload is the directory that is searched; or a refusal's number.
-#[derive(Drop)]
+#[derive(Clone, Copy)]
 pub(crate) enum DirectoryAt {
     Place(usize),
     Refused(u64),

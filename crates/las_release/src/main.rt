@@ -57,6 +57,7 @@ fn release_folder<R: Files>(rt: &R) -> Result<Released, u64> {
     }
 }
 
+// Prints the line by one call, so that it comes out whole.
 fn main(rt: HostRuntime) -> io::Result<()> {
     match release_folder(&rt) {
         Ok(released) => println!(rt; "{released}"),

@@ -5,7 +5,7 @@ pub mod format2;
 pub mod format3;
 
 // Where a field stands in a record, or that the format lacks it.
-#[derive(Drop)]
+#[derive(Clone, Copy)]
 pub enum Place {
     At(usize),
     Absent,

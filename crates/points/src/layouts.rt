@@ -9,7 +9,7 @@ use crate::formats::format2::Format2;
 use crate::formats::format3::Format3;
 
 // A format's record size, and the places of GPS time and colour.
-#[derive(Drop)]
+#[derive(Clone, Copy)]
 pub struct Layout {
     pub size: usize,
     pub time: Place,

@@ -42,7 +42,7 @@ pub struct Point {
 }
 
 // What decoding gives: the fields, or the number that it refuses with.
-#[derive(Drop)]
+#[derive(Clone, Copy)]
 pub enum Decoded {
     Fields(Point),
     Refused(u64),
@@ -72,7 +72,7 @@ fn time_in(s: &[u8], place: Place) -> u64
     }
 }
 
-#[derive(Drop)]
+#[derive(Clone, Copy)]
 struct Colour {
     red: u16,
     green: u16,

@@ -10,7 +10,7 @@ use lasfile::header;
 use scaling::{Bounds, Scaling};
 
 // Bytes 4 to 25. The GUID stands in four numbers, the last of 8 bytes.
-#[derive(Drop)]
+#[derive(Clone, Copy)]
 pub struct Identity {
     pub file_source_id: u64,
     pub global_encoding: u64,
@@ -23,7 +23,7 @@ pub struct Identity {
 }
 
 // What made the file and when. The texts stand at 26 and 58; these are the lengths of their cuts.
-#[derive(Drop)]
+#[derive(Clone, Copy)]
 pub struct Creation {
     pub system_length: u64,
     pub software_length: u64,
@@ -32,7 +32,7 @@ pub struct Creation {
 }
 
 // Where things are and how many there are.
-#[derive(Drop)]
+#[derive(Clone, Copy)]
 pub struct FileLayout {
     pub header_size: u64,
     pub point_offset: u64,
@@ -43,7 +43,7 @@ pub struct FileLayout {
 }
 
 // The stated number of points of each return number.
-#[derive(Drop)]
+#[derive(Clone, Copy)]
 pub struct ByReturn {
     pub first: u64,
     pub second: u64,
@@ -53,7 +53,7 @@ pub struct ByReturn {
 }
 
 // The bounds are the stated ones, as their 64 bits: they may be NaNs.
-#[derive(Drop)]
+#[derive(Clone, Copy)]
 pub struct Header {
     pub identity: Identity,
     pub creation: Creation,
@@ -63,7 +63,7 @@ pub struct Header {
     pub bounds: Bounds,
 }
 
-#[derive(Drop)]
+#[derive(Clone, Copy)]
 pub enum HeaderRead {
     Fields(Header),
     Refused(u64),

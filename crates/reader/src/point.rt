@@ -6,7 +6,7 @@ use fields::{Verdict, refusals, slices};
 use lasfile::header;
 use points::Point;
 
-#[derive(Drop)]
+#[derive(Clone, Copy)]
 pub enum PointAt {
     // The place of the record in the file, and its fields.
     At(usize, Point),

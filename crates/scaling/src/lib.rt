@@ -46,7 +46,7 @@ pub struct Scaling {
     pub z_offset: f64,
 }
 
-#[derive(Drop)]
+#[derive(Clone, Copy)]
 pub struct Coordinates {
     pub x: f64,
     pub y: f64,

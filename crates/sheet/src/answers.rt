@@ -5,7 +5,7 @@ ghost use Rattle.sheet.specs.Keeping.{kept_under, class_kept, record_kept, teste
 use crate::lookup;
 
 // What a sheet says of a class or a record; its number, where the sheet fails.
-#[derive(Drop)]
+#[derive(Clone, Copy)]
 pub enum Kept {
     Yes,
     No,
@@ -40,7 +40,7 @@ pub fn record_kept(sheet: &[u8], user: &[u8], id: u16) -> Kept
 }
 
 // Whether a line holds a class, with the number of lines looked at for it; the sheet's number, where it fails.
-#[derive(Drop)]
+#[derive(Clone, Copy)]
 pub enum Tested {
     Held(u8),
     NotHeld(u8),

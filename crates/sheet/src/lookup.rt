@@ -14,7 +14,7 @@ enum Sought {
 }
 
 // What a search comes to: whether a line keeps what is looked for, and how many lines were looked at.
-#[derive(Drop)]
+#[derive(Clone, Copy)]
 pub(crate) struct Searched {
     pub(crate) found: bool,
     pub(crate) lines: u8,

@@ -4,7 +4,7 @@ ghost use Rattle.points.specs.Formats.{time_place, colour_place};
 
 use crate::formats::Place;
 
-#[derive(Drop)]
+#[derive(Clone, Copy)]
 pub struct Format1;
 
 impl Format1 {
