@@ -1,6 +1,5 @@
--- `geokeys::find_entry` meets its contract. The loop's invariant: the first entry is the first of those still to look
--- at.
--- Assumes nothing.
+-- What the loop of `geokeys::find_entry` keeps: the first entry is the first of those still to look at. Assumes
+-- nothing.
 use mathlib.Core.Path.{◌≡◌}
 use mathlib.Core.Bool.{Bool}
 use Prim.Native.Nat.{ℕ, ◌+◌, ◌*◌, ◌≤◌}

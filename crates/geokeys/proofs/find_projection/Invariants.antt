@@ -1,6 +1,5 @@
--- `geokeys::find_projection` meets its contract. The loop's invariant: the first record is the first of those still to
--- walk.
--- Assumes nothing.
+-- What the loop of `geokeys::find_projection` keeps: the first record is the first of those still to walk. Assumes
+-- nothing.
 use mathlib.Core.Path.{◌≡◌}
 use Prim.Native.Nat.{ℕ}
 use Rattle.fields.specs.Bytes.{Bytes}

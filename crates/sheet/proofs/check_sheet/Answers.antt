@@ -1,3 +1,4 @@
+-- `sheet::check_sheet` meets its contract. Assumes nothing.
 use mathlib.Core.Path.{sym, ◌∙◌}
 use native.Mathlib.Omega.{arith}
 use Rattle.sheet.proofs.LineLaws.{verdict_from, verdict_here, verdict_next, verdict_full, verdict_end}

@@ -1,5 +1,5 @@
--- `sheet::check_sheet` meets its contract. The loop's invariant: the sheet's verdict is that of the rest, where `left`
--- more lines may begin. Assumes nothing.
+-- What the loop of `sheet::check_sheet` keeps: the sheet's verdict is that of the rest, where `left` more lines may
+-- begin. Assumes nothing.
 use mathlib.Core.Path.{◌≡◌}
 use Rattle.sheet.specs.Sheet.{lines_verdict, sheet_verdict}
 use Rattle.sheet.proofs.check_sheet.Given as goal

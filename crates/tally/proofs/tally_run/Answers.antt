@@ -1,3 +1,4 @@
+-- `tally_run` meets its contract. Assumes nothing.
 use Prim.Native.Nat.{◌+◌, ◌-◌, ◌^◌, ◌≤◌}
 use lib.ListN.{length}
 use Rattle.tally.proofs.CountLaws.{counts_up}

@@ -1,4 +1,4 @@
--- `tally_run` meets its contract. Assumes nothing.
+-- What the loop of `tally_run` keeps: the tally is that of the points so far, as `Running` says. Assumes nothing.
 use Rattle.tally.proofs.RunLaws.{Running}
 use Rattle.tally.proofs.tally_run.Given as goal
 

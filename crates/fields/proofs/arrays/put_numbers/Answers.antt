@@ -1,3 +1,4 @@
+-- `arrays::put_numbers` meets its contract. Assumes nothing.
 use native.Mathlib.Omega.{arith}
 use Rattle.fields.proofs.arrays.NumberLaws.{writing_begins, writing_next, writing_ends}
 use Rattle.fields.proofs.arrays.put_numbers.Goals as goal

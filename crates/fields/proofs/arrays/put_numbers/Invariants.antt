@@ -1,6 +1,5 @@
--- `arrays::put_numbers` meets its contract. The loop's invariant: what the numbers still to write make of the output is
--- what all make of it.
--- Assumes nothing.
+-- What the loop of `arrays::put_numbers` keeps: what the numbers still to write make of the output is what all make of
+-- it. Assumes nothing.
 use Prim.Native.Nat.{◌-◌}
 use lib.ListN.{length}
 use Rattle.fields.proofs.arrays.NumberLaws.{Writing}

@@ -1,6 +1,5 @@
--- `copying::copy_16` meets its contract. The first loop's invariant: each byte of the block so far is the source's. The
--- second's: `dst` is what it was with the first k bytes pasted in.
--- Assumes nothing.
+-- What the first loop of `copying::copy_16` keeps: each byte of the block so far is the source's. What the second
+-- keeps: `dst` is what it was with the first k bytes pasted in. Assumes nothing.
 use mathlib.Core.Path.{◌≡◌}
 use Prim.Native.Nat.{ℕ, ◌+◌, ◌-◌, ◌≤◌, ◌<◌}
 use lib.ListN.{length, drop, get_or}

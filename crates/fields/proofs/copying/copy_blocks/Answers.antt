@@ -1,3 +1,5 @@
+-- `copying::copy_blocks` meets its contract. The last block is pasted over the end of what the loop gives. Assumes
+-- nothing.
 use mathlib.Core.Path.{◌≡◌, refl, ap, ◌∙◌}
 use Prim.Native.Nat.{ℕ, ◌+◌, ◌-◌}
 use native.Mathlib.Omega.{arith}

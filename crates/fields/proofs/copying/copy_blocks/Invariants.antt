@@ -1,6 +1,5 @@
--- `copying::copy_blocks` meets its contract. The invariant of its loop: `dst` is what it was with the first i bytes
--- pasted in. The last block is pasted over the end of that.
--- Assumes nothing.
+-- What the loop of `copying::copy_blocks` keeps: `dst` is what it was with the first i bytes pasted in. Assumes
+-- nothing.
 use mathlib.Core.Path.{◌≡◌}
 use Prim.Native.Nat.{◌-◌, ◌≤◌}
 use lib.ListN.{length}

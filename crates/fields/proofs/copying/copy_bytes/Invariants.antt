@@ -1,6 +1,5 @@
--- `copying::copy_bytes` meets its contract. The invariant of its loop: `dst` is what it was with the first i bytes
--- pasted in, and is as long as it was.
--- Assumes nothing.
+-- What the loop of `copying::copy_bytes` keeps: `dst` is what it was with the first i bytes pasted in, and is as long
+-- as it was. Assumes nothing.
 use mathlib.Core.Path.{◌≡◌}
 use Prim.Native.Nat.{◌-◌, ◌≤◌}
 use lib.ListN.{length}

@@ -1,6 +1,5 @@
--- `fields::numbers::half_within` meets its contract. The loop goes from the lowest byte up: r is the number of the
--- first i bytes, and unit is 256 ^ i.
--- Assumes nothing.
+-- The loop of `fields::numbers::half_within` goes from the lowest byte up: r is the number of the first i bytes, and
+-- unit is 256 ^ i. Assumes nothing.
 use mathlib.Core.Path.{◌≡◌}
 use Prim.Native.Nat.{ℕ, ◌-◌, ◌^◌, ◌≤◌, ◌<◌}
 use Rattle.fields.specs.Bytes.{Bytes, num, part}

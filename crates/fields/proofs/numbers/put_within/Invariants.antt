@@ -1,5 +1,4 @@
--- `fields::numbers::put_within` meets its contract. The loop's invariant: what the bytes still to write make of s is
--- what all make of it.
+-- What the loop of `fields::numbers::put_within` keeps: what the bytes still to write make of s is what all make of it.
 -- Assumes nothing.
 use mathlib.Core.Path.{◌≡◌}
 use Prim.Native.Nat.{◌+◌, ◌-◌, ◌≤◌}

@@ -1,6 +1,5 @@
--- `slices::same_bytes` meets its contract. The loop's invariant: whether the runs are equal is whether the rests from i
--- on are.
--- Assumes nothing.
+-- What the loop of `slices::same_bytes` keeps: whether the runs are equal is whether the rests from i on are. Assumes
+-- nothing.
 use mathlib.Core.Path.{◌≡◌}
 use Prim.Native.Nat.{◌-◌, ◌≤◌}
 use lib.ListN.{length, drop}

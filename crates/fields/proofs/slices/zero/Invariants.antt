@@ -1,6 +1,5 @@
--- `slices::zero` meets its contract. The loop's invariant: what the zeros still to write make of dst is what all make
--- of it.
--- Assumes nothing.
+-- What the loop of `slices::zero` keeps: what the zeros still to write make of dst is what all make of it. Assumes
+-- nothing.
 use mathlib.Core.Path.{◌≡◌}
 use Prim.Native.Nat.{◌-◌, ◌≤◌}
 use lib.ListN.{length}

@@ -1,5 +1,5 @@
--- `text::cut_length` meets its contract. The loop's invariant: end is the cut's length as far as place i, and `cut_end`
--- says what the rest makes of it. Assumes nothing.
+-- What the loop of `text::cut_length` keeps: end is the cut's length as far as place i, and `cut_end` says what the
+-- rest makes of it. Assumes nothing.
 use mathlib.Core.Path.{◌≡◌}
 use Prim.Native.Nat.{◌-◌, ◌≤◌}
 use lib.ListN.{length, drop}

@@ -1,5 +1,4 @@
--- `text::is_over` meets its contract. The loop's invariant: as much is left from i on as from the given place on.
--- Assumes nothing.
+-- What the loop of `text::is_over` keeps: as much is left from i on as from the given place on. Assumes nothing.
 use mathlib.Core.Path.{◌≡◌}
 use mathlib.Core.List.{[]}
 use Prim.Native.Nat.{◌-◌}

@@ -1,5 +1,5 @@
--- `text::same_cut` meets its contract. The loop's invariant: whether the cuts are the same is whether what is left of
--- them from i on is. Assumes nothing.
+-- What the loop of `text::same_cut` keeps: whether the cuts are the same is whether what is left of them from i on is.
+-- Assumes nothing.
 use mathlib.Core.Path.{◌≡◌}
 use Prim.Native.Nat.{◌-◌}
 use lib.ListN.{length, drop}

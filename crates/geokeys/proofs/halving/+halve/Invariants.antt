@@ -1,5 +1,4 @@
--- The proof of the cycle of calls {`halving::halve`}. The measure is the number of entries left.
--- Assumes nothing.
+-- What makes `halving::halve` end: the number of entries left goes down. Assumes nothing.
 use Rattle.geokeys.proofs.halving.+halve.Given as goal
 
 abbrev pub decreases-halve : goal.decreases-halve

@@ -1,5 +1,4 @@
--- `vlr::records_fit` meets its contract. The loop's invariant: the records still to walk end where all of them do.
--- Assumes nothing.
+-- What the loop of `vlr::records_fit` keeps: the records still to walk end where all of them do. Assumes nothing.
 use mathlib.Core.Path.{◌≡◌}
 use Rattle.lasfile.specs.Records.{walk_end}
 use Rattle.lasfile.proofs.vlr.records_fit.Given as goal

@@ -1,4 +1,5 @@
--- `box_index::mark_box` meets its contract. Assumes nothing.
+-- What the loop of `box_index::mark_box` keeps: no bit is lost, and box j is marked on the axes so far. Assumes
+-- nothing.
 use mathlib.Core.Path.{◌≡◌}
 use Prim.Native.Nat.{ℕ, ◌-◌, ◌<◌}
 use lib.ListN.{length}

@@ -1,4 +1,4 @@
--- `box_index::mark_boxes` meets its contract. Assumes nothing.
+-- What the loop of `box_index::mark_boxes` keeps: the first j boxes are in the index. Assumes nothing.
 use mathlib.Core.Path.{◌≡◌}
 use Prim.Native.Nat.{◌-◌, ◌≤◌}
 use lib.ListN.{length}

@@ -1,4 +1,4 @@
--- `box_index::mark_cells` meets its contract. Assumes nothing.
+-- What the loop of `box_index::mark_cells` keeps: no bit is lost, and the cells so far have bit j. Assumes nothing.
 use mathlib.Core.Path.{◌≡◌}
 use Prim.Native.Nat.{ℕ, suc, ◌-◌, ◌≤◌, ◌<◌}
 use lib.ListN.{length, get_or}

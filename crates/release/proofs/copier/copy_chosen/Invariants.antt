@@ -1,4 +1,4 @@
--- `copier::copy_chosen` meets its contract. The loop's invariant is `Pasted`. Assumes nothing.
+-- What the loop of `copier::copy_chosen` keeps is `Pasted`. Assumes nothing.
 use Prim.Native.Nat.{◌-◌}
 use Rattle.release.proofs.copier.ChosenLaws.{Pasted}
 use Rattle.release.proofs.copier.copy_chosen.Given as goal

@@ -1,4 +1,4 @@
--- `copier::copy_run` meets its contract. The loop's invariant is `Blocked`. Assumes nothing.
+-- What the loop of `copier::copy_run` keeps is `Blocked`. Assumes nothing.
 use mathlib.Core.Path.{◌≡◌}
 use Prim.Native.Nat.{◌-◌}
 use lib.ListN.{length}

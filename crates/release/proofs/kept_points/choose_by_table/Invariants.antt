@@ -1,4 +1,4 @@
--- `kept_points::choose_by_table` meets its contract. The loop's invariant is `Chosen`. Assumes nothing.
+-- What the loop of `kept_points::choose_by_table` keeps is `Chosen`. Assumes nothing.
 use Prim.Native.Nat.{◌-◌}
 use Rattle.sheet.specs.Keeping.{in_table}
 use Rattle.release.proofs.kept_points.ChooseLaws.{Chosen}

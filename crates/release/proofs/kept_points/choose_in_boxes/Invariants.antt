@@ -1,4 +1,4 @@
--- `kept_points::choose_in_boxes` meets its contract. The loop's invariant is `Staying`. Assumes nothing.
+-- What the loop of `kept_points::choose_in_boxes` keeps is `Staying`. Assumes nothing.
 use Prim.Native.Nat.{◌-◌}
 use Rattle.sheet.specs.Boxes.{in_boxes}
 use Rattle.release.proofs.kept_points.StayLaws.{Staying}

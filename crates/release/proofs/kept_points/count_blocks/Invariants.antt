@@ -1,4 +1,4 @@
--- `kept_points::count_blocks` meets its contract. The loop's invariant is `Counted`. Assumes nothing.
+-- What the loop of `kept_points::count_blocks` keeps is `Counted`. Assumes nothing.
 use mathlib.Core.Path.{◌≡◌}
 use lib.ListN.{length}
 use Rattle.sheet.specs.Boxes.{keeps_by}

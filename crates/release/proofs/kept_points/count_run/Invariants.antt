@@ -1,4 +1,4 @@
--- `kept_points::count_run` meets its contract. The loop's invariant is `Counted`. Assumes nothing.
+-- What the loop of `kept_points::count_run` keeps is `Counted`. Assumes nothing.
 use Prim.Native.Nat.{◌-◌}
 use Rattle.sheet.specs.Keeping.{in_table}
 use Rattle.release.proofs.kept_points.LoopLaws.{Counted}

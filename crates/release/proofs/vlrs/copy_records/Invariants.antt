@@ -1,6 +1,5 @@
--- `vlrs::copy_records` meets its contract. The loop's invariant: what the records still to walk make of the output is
--- what all make of it.
--- Assumes nothing.
+-- What the loop of `vlrs::copy_records` keeps: what the records still to walk make of the output is what all make of
+-- it. Assumes nothing.
 use Rattle.fields.specs.Bytes.{AllBytes}
 use Rattle.release.proofs.vlrs.KeptLaws.{Copying}
 use Rattle.release.proofs.vlrs.copy_records.Given as goal

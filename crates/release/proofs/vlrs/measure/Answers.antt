@@ -1,3 +1,4 @@
+-- `vlrs::measure` meets its contract. Assumes nothing.
 use mathlib.Core.Path.{sym, ap, ◌∙◌}
 use native.Mathlib.Omega.{arith}
 use Rattle.fields.specs.Bytes.{Bytes, AllBytes}

@@ -1,6 +1,5 @@
--- `vlrs::measure` meets its contract. The loop's invariant: the records still to walk make up what is missing of the
--- sums.
--- Assumes nothing.
+-- What the loop of `vlrs::measure` keeps: the records still to walk make up what is missing of the sums. Assumes
+-- nothing.
 use Rattle.fields.specs.Bytes.{AllBytes}
 use Rattle.release.proofs.vlrs.KeptLaws.{Measuring}
 use Rattle.release.proofs.vlrs.measure.Given as goal

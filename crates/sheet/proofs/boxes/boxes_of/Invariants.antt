@@ -1,4 +1,5 @@
--- `boxes::boxes_of` meets its contract. Assumes nothing.
+-- What the loop of `boxes::boxes_of` keeps: the boxes of the lines so far stand in the numbers, as `Reading` says.
+-- Assumes nothing.
 use mathlib.Core.Path.{◌≡◌}
 use lib.ListN.{length}
 use Rattle.sheet.proofs.boxes.NumberLaws.{Reading}

@@ -1,4 +1,4 @@
--- `boxes::in_first` meets its contract. Assumes nothing.
+-- What the loop of `boxes::in_first` keeps: whether one of the first j boxes contains the point. Assumes nothing.
 use mathlib.Core.Path.{◌≡◌}
 use Prim.Native.Nat.{◌-◌, ◌≤◌}
 use Rattle.sheet.specs.Boxes.{along, in_first}

@@ -1,4 +1,5 @@
--- `boxes::put_box` meets its contract. Assumes nothing.
+-- What the loop of `boxes::put_box` keeps: the first i numbers of the line stand behind those of the boxes before, as
+-- `Putting` says. Assumes nothing.
 use mathlib.Core.Path.{◌≡◌}
 use Prim.Native.Nat.{◌-◌, ◌≤◌}
 use mathlib.Core.List.{List}

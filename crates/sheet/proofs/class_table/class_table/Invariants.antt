@@ -1,5 +1,4 @@
--- `class_table::class_table` meets its contract. The loop's invariant: each entry so far is what the sheet says.
--- Assumes nothing.
+-- What the loop of `class_table::class_table` keeps: each entry so far is what the sheet says. Assumes nothing.
 use mathlib.Core.Path.{◌≡◌}
 use mathlib.Core.Bool.{false}
 use Prim.Native.Nat.{ℕ, ◌-◌, ◌≤◌, ◌<◌}

@@ -1,3 +1,4 @@
+-- `lookup::search` meets its contract. Assumes nothing.
 use mathlib.Core.Path.{sym, ◌∙◌}
 use native.Mathlib.Omega.{arith}
 use Rattle.sheet.proofs.lookup.SearchLaws.{begin, full, end, here, next}

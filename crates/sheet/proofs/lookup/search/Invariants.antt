@@ -1,5 +1,4 @@
--- `lookup::search` meets its contract. The loop's invariant: `looked` lines were looked at, and none of them passes.
--- Assumes nothing.
+-- What the loop of `lookup::search` keeps: `looked` lines were looked at, and none of them passes. Assumes nothing.
 use Prim.Native.Nat.{◌-◌}
 use Rattle.fields.specs.Text.{cut}
 use Rattle.sheet.specs.Keeping.{line_keeps}
