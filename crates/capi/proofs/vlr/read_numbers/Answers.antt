@@ -12,4 +12,4 @@ with_reads n g = record { number = g.number; location = g.location; value = g.va
 
 pub returns : goal.returns
 unfolding read_numbers
-returns c = ap (with_reads _) c.geokey_numbers-numbers.ensures
+returns c = ap (with_reads c.args.read.reads) c.geokey_numbers-numbers.ensures
