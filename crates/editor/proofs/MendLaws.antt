@@ -8,7 +8,7 @@ use native.Mathlib.Omega.{arith}
 use borrow.Author.Tests.{eqb-true, eqb-false}
 use mathlib.Core.Bool.{Bool, true, false, not}
 use mathlib.Core.List.{List, [], ◌∷◌}
-use lib.Dec.{T, eqb, lit≤, lit<}
+use lib.Dec.{eqb, lit≤, lit<}
 use lib.ListN.{length, drop, get_or, replicate, length-drop}
 use lib.Seq.{sets, length-sets}
 use Rattle.fields.specs.Bytes.{Bytes, AllBytes, part, num, same, bytes_of, pieces, numbers_bytes}

@@ -9,7 +9,7 @@ use mathlib.Core.List.{List}
 use lib.Dec.{lit≤}
 use lib.ListN.{length, drop}
 use lib.Seq.{sets}
-use Rattle.fields.specs.Bytes.{Bytes, AllBytes, part, pieces, same, numbers_bytes}
+use Rattle.fields.specs.Bytes.{Bytes, AllBytes, part, pieces, numbers_bytes}
 use Rattle.fields.proofs.StoreLaws.{sets_same}
 use Rattle.fields.proofs.arrays.NumberLaws.{length_numbers, numbers_part}
 use Rattle.scaling.specs.Scaling.{scaling_of}
@@ -20,8 +20,7 @@ use Rattle.lasfile.specs.HeaderFields.{header_block, header_size, point_offset, 
 use Rattle.lasfile.proofs.header.FieldLaws.{size_same, offset_same, records_same, format_same, length_same, count_written, count_low}
 use Rattle.lasfile.specs.FileChecks.{records_end}
 use Rattle.lasfile.specs.Passed.{PassedWith, Passed}
-use Rattle.lasfile.proofs.Passed.{records_end_lem, passes}
-use Rattle.publicpart.specs.Bounds.{bounds}
+use Rattle.lasfile.proofs.Passed.{records_end_lem}
 use Rattle.publicpart.specs.Public.{carried_of}
 use Rattle.editor.specs.Mend.{whole_records, mended_count, mended_points, mended}
 use Rattle.editor.proofs.MendLaws.{count_stated, count_room, points_are, counts, bits, six_counts, six_bounds, mended_is, length-mended, outside, behind, counts_in, bits_in}

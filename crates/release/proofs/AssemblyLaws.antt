@@ -6,7 +6,7 @@ use mathlib.Core.Bool.{Bool}
 use Prim.Native.Nat.{ℕ, ◌+◌, ◌-◌, ◌*◌, ◌≤◌}
 use native.Mathlib.Omega.{arith}
 use mathlib.Core.List.{List, [], ◌∷◌, ◌++◌, append_assoc}
-use lib.ListN.{length, take, drop, get_or, length-append, length-drop, length-replicate, replicate-append-replicate}
+use lib.ListN.{length, take, drop, length-append, length-drop, length-replicate, replicate-append-replicate}
 use lib.IntN.{ℤ}
 use lib.Seq.{sets, sets-eq, length-sets, length-take-le, get_or-drop, take_at, drop_at, take-append-add}
 use Rattle.fields.specs.Lists.{All, total}

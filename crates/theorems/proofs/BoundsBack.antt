@@ -9,7 +9,7 @@ use lib.Dec.{T, lit≤}
 use lib.IntN.{ℤ, nat_abs}
 use lib.Signed.{◌≤ℤ◌}
 use lib.ListN.{length, get_or}
-use lib.Ieee.{Float, binary64, le, mul, of_int, of_bits}
+use lib.Ieee.{Float, binary64, mul, of_int, of_bits}
 use lib.Ieee.Fits.{add-fits}
 use lib.Ieee.Bits.{of_bits-to_bits, to_bits-lt}
 use Rattle.fields.specs.Lists.{All}

@@ -1,14 +1,13 @@
 -- Every theorem on boxes and on the order of lines, applied where its hypotheses are met.
 -- Assumes nothing.
 use mathlib.Core.Path.{◌≡◌, refl, sym, ap, ◌∙◌}
-use Prim.Native.Nat.{ℕ, ◌≤◌}
+use Prim.Native.Nat.{ℕ}
 use native.Mathlib.Omega.{arith}
 use mathlib.Core.Bool.{true, false}
 use mathlib.Core.List.{List, [], ◌∷◌, Memᴰ}
 use lib.ListN.{length}
 use lib.IntN.{pos, negsuc}
 use lib.Signed.{◌≤ℤ◌}
-use Rattle.fields.specs.Lists.{All}
 use Rattle.fields.specs.Bytes.{Bytes}
 use Rattle.fields.specs.declared.Verdict.TheVariants.{Passes}
 use Rattle.lasfile.specs.HeaderFields.{point_count}

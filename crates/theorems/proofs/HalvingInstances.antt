@@ -4,7 +4,6 @@ use mathlib.Core.Path.{◌≡◌, refl, sym, ◌∙◌, subst}
 use native.Mathlib.Omega.{arith}
 use lib.Dec.{lit≤, lit<}
 use mathlib.Core.List.{[], ◌∷◌}
-use lib.ListN.{length}
 use Rattle.fields.specs.Bytes.{Bytes, AllBytes}
 use Rattle.fields.specs.declared.Verdict.TheVariants.{Passes, Fails}
 use Rattle.geokeys.specs.GeoKeys.{or_later, first, is_projection, projection_place, payload_at, key_count, entries, key_of, location_of, count_of, offset_of, entry_of, answer_if, either, from_entry, payload_in, directory_of, directory_verdict, entries_in, searched, search_verdict, lookup}

@@ -3,7 +3,7 @@
 -- Assumes nothing.
 use mathlib.Core.Path.{◌≡◌, refl, sym, ap, subst, ◌∙◌}
 use mathlib.Core.Logic.{inl, inr, ◌↔◌, ◌⊎◌}
-use Prim.Native.Nat.{ℕ, zero, suc, ◌+◌, ◌-◌, ◌/◌, ◌^◌, ◌≤◌, ◌<◌, min}
+use Prim.Native.Nat.{ℕ, zero, suc, ◌+◌, ◌-◌, ◌/◌, ◌^◌, ◌≤◌, min}
 use native.Mathlib.Omega.{arith}
 use mathlib.Core.Bool.{Bool, true, false, not, ◌&&◌}
 use mathlib.Core.List.{[], ◌∷◌, ◌++◌}
@@ -28,7 +28,6 @@ use Rattle.lasfile.specs.HeaderFields.{header_size, point_offset, record_count, 
 use Rattle.lasfile.specs.Records.{places, written_length, SoundRecord}
 use Rattle.sheet.specs.Sheet.{kind, sheet_verdict, lines}
 use Rattle.publicpart.specs.Public.{carried_of, contents, public_of}
-use Rattle.publicpart.specs.declared.Answer.TheVariants.{Released}
 use Rattle.publicpart.specs.Release.{release}
 use Rattle.capi.specs.Interface.{las_check_file, las_check_sheet, las_read_header, las_vlr_step, las_point_at, las_decode, las_encode, las_class_kept, las_class_test, las_record_kept, las_geokey_find, las_release, las_cutting_list, las_release_by_list, las_mend}
 use Rattle.reader.specs.Header as header

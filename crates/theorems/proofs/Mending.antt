@@ -9,11 +9,11 @@ use native.Mathlib.Omega.{arith}
 use mathlib.Core.Bool.{Bool, true, false, not, true≢false}
 use mathlib.Core.List.{List, [], ◌∷◌, ◌++◌, map}
 use borrow.Author.Tests.{eq-eqb}
-use lib.Dec.{T, lit<}
+use lib.Dec.{lit<}
 use lib.ListN.{length, drop, get_or, replicate}
 use Rattle.fields.specs.Lists.{All, kept, cons_if}
 use Rattle.fields.specs.Bytes.{Bytes, AllBytes, part, num, same, pieces, numbers_bytes}
-use Rattle.fields.specs.Checks.{Check, number_of}
+use Rattle.fields.specs.Checks.{number_of}
 use Rattle.fields.specs.declared.Verdict.{Verdict}
 use Rattle.fields.specs.declared.Verdict.TheVariants.{Passes, Fails}
 use Rattle.fields.proofs.ByteLaws.{num-part_one, same→eq, same_self, mul-suc}

@@ -1,9 +1,9 @@
 -- The samples P1 to P10 hold, by computing with the definitions.
 -- Assumes nothing.
-use mathlib.Core.Path.{refl, ap}
+use mathlib.Core.Path.{refl}
 use lib.Ieee.{to_bits, of_bits, add, mul, of_int, le}
 use Rattle.fields.specs.Lists.{kept, cons_if, any_of, total}
-use Rattle.fields.specs.Bytes.{Bytes, part, num, bytes_of, same, join, pieces, numbers_bytes}
+use Rattle.fields.specs.Bytes.{part, num, bytes_of, same, join, pieces, numbers_bytes}
 use Rattle.fields.specs.Text.{cut, padded}
 use Rattle.fields.specs.Checks.{fails, fail_if, first_failing, then, number_of}
 use Rattle.points.specs.Formats.{format_size, time_place, colour_place}

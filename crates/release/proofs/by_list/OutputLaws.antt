@@ -7,7 +7,7 @@ use native.Mathlib.Omega.{arith}
 use mathlib.Core.List.{[], ◌++◌, append_assoc, append-nil}
 use lib.ListN.{length, take, drop, length-append, length-replicate, replicate-append-replicate, drop_of_length-le}
 use lib.Seq.{sets, sets-eq, length-sets, take_at, drop_at}
-use Rattle.fields.specs.Bytes.{Bytes, AllBytes, zeros, join, pieces}
+use Rattle.fields.specs.Bytes.{Bytes, AllBytes, zeros, join}
 use Rattle.fields.specs.declared.Verdict.TheVariants.{Passes}
 use Rattle.fields.proofs.ByteLaws.{pieces_back}
 use Rattle.fields.proofs.StoreLaws.{sets_room}
@@ -19,7 +19,7 @@ use Rattle.lasfile.specs.FileChecks.{file_verdict}
 use Rattle.publicpart.specs.Public.{public_of}
 use Rattle.publicpart.specs.Render.{new_offset, render}
 use Rattle.release.specs.ByList.{zeroed_from, finished_file}
-use Rattle.release.proofs.AssemblyLaws.{records, points, sound_part, length_is, render-length, length_of_points, long, offset_is, front, z, length_front, headed}
+use Rattle.release.proofs.AssemblyLaws.{sound_part, length_is, render-length, length_of_points, long, offset_is, length_front, headed}
 
 length-zeros : (k : ℕ) → length (zeros k) ≡ k
 length-zeros k = length-replicate k 0

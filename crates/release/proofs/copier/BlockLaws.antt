@@ -1,7 +1,7 @@
 -- A block of records of which the kept ones are copied, and the loop over the blocks of a run, apart from any code:
 -- what holds at the start, after a turn, and at the end.
 -- Assumes nothing.
-use mathlib.Core.Path.{◌≡◌, refl, sym, ap, ◌∙◌}
+use mathlib.Core.Path.{◌≡◌, refl, sym, ◌∙◌}
 use Prim.Native.Nat.{ℕ, zero, suc, ◌+◌, ◌-◌, ◌*◌, ◌^◌, ◌≤◌, ◌<◌}
 use native.Mathlib.Omega.{arith}
 use native.Mathlib.Nat.{add-mul}
@@ -10,7 +10,7 @@ use mathlib.Core.List.{List, [], ◌++◌, append_assoc}
 use lib.ListN.{length, take, drop, length-append, length-drop}
 use lib.Seq.{sets, length-sets, length-take-le, sets-eq, drop_at}
 use Rattle.fields.specs.Lists.{All, kept}
-use Rattle.fields.specs.Bytes.{Bytes, part, pieces, join}
+use Rattle.fields.specs.Bytes.{Bytes, pieces, join}
 use Rattle.fields.proofs.ByteLaws.{length_part, length-pieces, pieces_width, length-join_pieces, pieces_back, join-append, join-pieces}
 use Rattle.fields.proofs.ListLaws.{length-kept, kept_whole, All-kept}
 use Rattle.fields.proofs.StoreLaws.{sets-append}

@@ -6,7 +6,6 @@ use mathlib.Core.Bool.{Bool}
 use mathlib.Core.List.{List, ◌++◌, map}
 use lib.ListN.{drop}
 use lib.IntN.{ℤ}
-use Rattle.fields.specs.Lists.{All, kept}
 use Rattle.fields.specs.Bytes.{Bytes, AllBytes, part}
 use Rattle.fields.proofs.ListLaws.{kept_same, all_of}
 use Rattle.fields.proofs.ByteLaws.{take_bytes, drop_bytes}

@@ -8,7 +8,7 @@ use mathlib.Core.List.{List, [], ◌∷◌, ◌++◌, append_assoc}
 use lib.IntN.{ℤ}
 use lib.ListN.{length, get_or, length-append}
 use lib.Dec.{eqb}
-use mir.Syntax.{Width, w8, w32}
+use mir.Syntax.{w8, w32}
 use mir.Val.{SFits, to_z, of_z, bool_byte}
 use mir.ValLaws.{of_z_fits, to_z-of_z}
 use Rattle.fields.specs.Bytes.{Bytes, part, num, bytes_of, join, start, Fit}

@@ -1,15 +1,15 @@
 -- Bytes come back from their fields, fields from their bytes, and extra bytes stay, in every format.
 -- Assumes nothing.
 use mathlib.Core.Path.{◌≡◌, refl, ap, ◌∙◌}
-use Prim.Native.Nat.{ℕ, ◌+◌, ◌≤◌}
+use Prim.Native.Nat.{ℕ, ◌≤◌}
 use native.Mathlib.Nat.{zero-add}
 use native.Mathlib.Omega.{arith}
 use mathlib.Core.List.{◌++◌, append_assoc}
 use lib.ListN.{length, take, drop, take-append-drop}
 use lib.Seq.{sets, sets-eq, length-sets, length-take-le, drop_at}
-use lib.Dec.{T, eqb, eqb→eq}
+use lib.Dec.{eqb→eq}
 use Rattle.fields.specs.Bytes.{Bytes, AllBytes, join}
-use Rattle.fields.specs.Checks.{fails, first_failing, Clear}
+use Rattle.fields.specs.Checks.{first_failing, Clear}
 use Rattle.fields.specs.declared.Verdict.{Verdict}
 use Rattle.fields.specs.declared.Verdict.TheVariants.{Passes, Fails}
 use Rattle.fields.proofs.CheckLaws.{none_fails, unclear}

@@ -7,7 +7,7 @@ use mathlib.Core.List.{List, ◌∷◌, map}
 use mathlib.Core.Logic.{inl}
 use borrow.Author.Tests.{lt-ltb, le-ltb}
 use lib.ListN.{length, drop}
-use lib.Dec.{T, ltb}
+use lib.Dec.{T}
 use Rattle.fields.specs.Bytes.{Bytes, part}
 use Rattle.fields.specs.Text.{cut}
 use Rattle.fields.specs.Checks.{Clear}

@@ -1,7 +1,7 @@
 -- The theorems about coordinates: a file that passes has finite coordinates in the order of their stored values, its
 -- scales and offsets are carried by their bits, and the exact case is exact. Assumes nothing.
 use mathlib.Core.Path.{◌≡◌, refl}
-use Prim.Native.Nat.{ℕ, zero, suc, ◌+◌, ◌*◌, ◌^◌, ◌≤◌, ◌<◌}
+use Prim.Native.Nat.{ℕ, zero, suc, ◌*◌, ◌^◌, ◌≤◌, ◌<◌}
 use native.Mathlib.Nat.{mul-le-mul}
 use native.Mathlib.Omega.{arith}
 use mathlib.Core.Bool.{Bool, true, false, not, ◌&&◌}
@@ -9,7 +9,7 @@ use lib.Dec.{T, lit≤}
 use lib.Pow.{pow_mono}
 use lib.IntN.{ℤ, pos, negsuc, neg_ℤ, nat_abs, ◌+ℤ◌, ◌*ℤ◌}
 use lib.Signed.{◌≤ℤ◌}
-use lib.Ieee.{Float, nan, inf, fin, binary64, up, down, add, mul, of_int, to_bits, le, is_nan}
+use lib.Ieee.{Float, nan, inf, fin, binary64, up, down, mul, of_int, to_bits, le, is_nan}
 use lib.Ieee.Fits.{and_l, and_r, down_pos}
 use lib.Ieee.Bits.{to_bits-of_bits}
 use lib.Ieee.Scale.{finite}
@@ -20,7 +20,7 @@ use Rattle.scaling.specs.declared.Scaling.{Scaling}
 use Rattle.scaling.proofs.ScalingLaws.{double_in}
 use Rattle.scaling.specs.Scaling.{coordinate_of, double_at, scaling_in, scaling_of, within, good_scale, good_offset, good_scaling}
 use Rattle.theorems.specs.Coordinates.{Axis, axis_x, axis_y, axis_z, axis_scale, axis_offset, scale_place, offset_place, signed, Times, Fits32, FiniteInOrder, ExactCase, Exact, CarriedBits, Coordinates}
-use Rattle.theorems.proofs.scaling.SignedLaws.{Le, Le-mul, negative, int_order, int_sum_size, size_times}
+use Rattle.theorems.proofs.scaling.SignedLaws.{Le-mul, negative, int_order, int_sum_size, size_times}
 use Rattle.theorems.proofs.scaling.RoundLaws.{SizeUpTo, bounded_finite, le-fin, product_is, round_bounded, round_order, add-finite, add_order}
 use Rattle.theorems.proofs.scaling.ExactLaws.{times_int, times_product, times_add, times_finer}
 

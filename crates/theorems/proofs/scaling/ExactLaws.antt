@@ -2,7 +2,7 @@
 -- stay below 2 ^ prec.
 -- Assumes nothing.
 use mathlib.Core.Path.{◌≡◌, refl, sym, ap, ◌∙◌}
-use Prim.Native.Nat.{ℕ, ◌+◌, ◌*◌, ◌^◌, ◌≤◌, ◌<◌}
+use Prim.Native.Nat.{ℕ, ◌*◌, ◌^◌, ◌≤◌, ◌<◌}
 use native.Mathlib.Nat.{mul-one, mul_assoc, mul_comm, mul_right_comm, mul-pos, le_of_lt}
 use native.Mathlib.Omega.{arith}
 use mathlib.Core.Bool.{Bool, true, false}
@@ -10,8 +10,8 @@ use lib.IntN.{ℤ, pos, nat_abs, ◌+ℤ◌, ◌*ℤ◌}
 use lib.Ieee.{Float, fin, Format, prec, low, up, down, round, sum, add, mul, of_int}
 use lib.Ieee.Fits.{down_pos}
 use lib.Ieee.Exact.{HasValue}
-use Rattle.theorems.specs.Coordinates.{signed, Times}
-use Rattle.theorems.proofs.scaling.SignedLaws.{SameValue, Sum, SameValue-mul, SameValue-cancel, Sum-mul, same_size, negative, int_sum, int_times, of_signed, to_signed, signed-times}
+use Rattle.theorems.specs.Coordinates.{Times}
+use Rattle.theorems.proofs.scaling.SignedLaws.{SameValue, SameValue-mul, SameValue-cancel, Sum-mul, same_size, negative, int_sum, int_times, of_signed, to_signed, signed-times}
 use Rattle.theorems.proofs.scaling.RoundLaws.{round_kept, sum_rounded, int_value, product_is}
 
 -- ---- `Times` by sign and size

@@ -9,7 +9,7 @@ use mathlib.Core.Bool.{Bool, true, false, not, ◌&&◌, ◌||◌, cond}
 use lib.IntN.{ℤ, pos, negsuc, nat_abs}
 use lib.Dec.{T, ltb, eqb, ltb→lt, lt→ltb, nltb→le, eqb→eq}
 use lib.Pow.{pow-add, pow_pos, pow_mono, shl_lt}
-use lib.Ieee.{Float, nan, inf, fin, Format, prec, emax, low, up, down, unlike, odd, units, round, sum, add, mul, of_int, le, lt, eq, below, level}
+use lib.Ieee.{Float, nan, inf, fin, Format, prec, emax, low, up, down, unlike, odd, units, round, sum, add, mul, of_int, le, below, level}
 use lib.Ieee.Digits.{back}
 use lib.Ieee.Fits.{round_is, reach, down_pos, and_l, and_r, and_i, eq→eqb}
 use lib.Ieee.Exact.{HasValue, units_val, round_exact}

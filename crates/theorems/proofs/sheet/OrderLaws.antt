@@ -5,7 +5,7 @@ use mathlib.Core.Logic.{◌↔◌}
 use Prim.Native.Nat.{ℕ}
 use mathlib.Core.Bool.{Bool, true, false, not, ◌||◌}
 use mathlib.Core.List.{List, Memᴰ}
-use Rattle.fields.specs.Lists.{any_of, kept}
+use Rattle.fields.specs.Lists.{any_of}
 use Rattle.fields.specs.Bytes.{Bytes}
 use Rattle.fields.specs.declared.Verdict.TheVariants.{Passes}
 use Rattle.fields.proofs.ListLaws.{kept_same, all_of}

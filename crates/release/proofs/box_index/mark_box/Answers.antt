@@ -1,7 +1,6 @@
 -- `box_index::mark_box` meets its contract. Assumes nothing.
 use mathlib.Core.Path.{◌∙◌}
 use native.Mathlib.Omega.{arith}
-use Prim.Native.Nat.{◌-◌}
 use Rattle.release.proofs.box_index.MarkLaws.{grown_none, axes_next}
 use Rattle.release.proofs.box_index.mark_box.Goals as goal
 

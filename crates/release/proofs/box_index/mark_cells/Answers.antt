@@ -1,7 +1,7 @@
 -- `box_index::mark_cells` meets its contract. Assumes nothing.
 use mathlib.Core.Path.{◌∙◌}
 use native.Mathlib.Omega.{arith}
-use Prim.Native.Nat.{◌-◌, ◌<◌}
+use Prim.Native.Nat.{◌<◌}
 use lib.ListN.{length-set}
 use Rattle.release.proofs.box_index.BitLaws.{shifted}
 use Rattle.release.proofs.box_index.MarkLaws.{grown_none, mark_next}

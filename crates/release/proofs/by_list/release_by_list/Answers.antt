@@ -1,13 +1,13 @@
 -- `by_list::release_by_list` meets its contract: what the calls require, and that together they do what is to be done,
 -- is `ByListLaws.antt`'s. Assumes nothing.
 use mathlib.Core.Path.{◌≡◌, refl, ap, ◌∙◌}
-use Prim.Native.Nat.{ℕ, ◌≤◌, ◌<◌}
+use Prim.Native.Nat.{ℕ}
 use native.Mathlib.Omega.{arith}
-use lib.ListN.{length, take}
+use lib.ListN.{take}
 use Rattle.fields.specs.Bytes.{AllBytes}
 use Rattle.publicpart.specs.Cutting.{cutting_lines, fill, release_by_list}
 use Rattle.release.specs.Writing.{lines_in}
-use Rattle.release.proofs.by_list.ByListLaws.{filled, lines_fit, items_fit, answer_fits, together}
+use Rattle.release.proofs.by_list.ByListLaws.{lines_fit, items_fit, answer_fits, together}
 use Rattle.release.proofs.by_list.release_by_list.Goals.{After-decide-answer, After-fill_list}
 use Rattle.release.proofs.by_list.release_by_list.Goals as goal
 

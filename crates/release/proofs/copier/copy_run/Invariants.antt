@@ -1,6 +1,5 @@
 -- What the loop of `copier::copy_run` keeps is `Blocked`. Assumes nothing.
 use mathlib.Core.Path.{◌≡◌}
-use Prim.Native.Nat.{◌-◌}
 use lib.ListN.{length}
 use Rattle.sheet.specs.Boxes.{keeps_by}
 use Rattle.release.proofs.copier.BlockLaws.{Blocked}

@@ -1,5 +1,4 @@
 -- What the loop of `kept_points::choose_by_table` keeps is `Chosen`. Assumes nothing.
-use Prim.Native.Nat.{◌-◌}
 use Rattle.sheet.specs.Keeping.{in_table}
 use Rattle.release.proofs.kept_points.ChooseLaws.{Chosen}
 use Rattle.release.proofs.kept_points.choose_by_table.Given as goal

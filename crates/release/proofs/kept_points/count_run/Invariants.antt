@@ -1,5 +1,4 @@
 -- What the loop of `kept_points::count_run` keeps is `Counted`. Assumes nothing.
-use Prim.Native.Nat.{◌-◌}
 use Rattle.sheet.specs.Keeping.{in_table}
 use Rattle.release.proofs.kept_points.LoopLaws.{Counted}
 use Rattle.release.proofs.kept_points.count_run.Given as goal
