@@ -4,15 +4,23 @@
 //! for each public function), each objection, a line for each rule, and last 'N passed, M failed': one for each public
 //! function, which passes where nothing is objected to it, and one for each rule about all else.
 //!
-//! Of a public function (`pub`, in modules that are `pub`, in a library; a program has none):
+//! Of a public function (`pub`, in modules that are `pub`, in a library; a program and a static library have none, and
+//! an `impl` of a trait neither):
 //! - it has no `requires`, since a function open to callers takes any input;
 //! - it has an `ensures`, since none is left unstated;
 //! - docs/PROMISES.md lists it: in a table whose first column is headed 'Function', the first cell is the function
-//!   between backquotes, `crate::module::function`, or `Type::method`, or `las_..` for an exported function;
+//!   between backquotes, `crate::module::function`, or `Type::method`, or `las_..` for one in the root of a library,
+//!   which C calls by that name;
 //! - at least two wrong programs are named by it, or by private functions that it calls in its crate.
 //!
 //! All else:
 //! - every folder of crates/ stands in crates.txt;
+//! - each function of a static library, `NAME staticlib: ..` in crates.txt, is `pub extern "C"` under
+//!   `#[unsafe(no_mangle)]` alone, and has an `ensures` and no `requires`. One library below, and just one, has in its
+//!   root a public function of its name, with the same parameters, result and clauses, letter by letter but for white
+//!   space. Its body is the call of that one with its own parameters in their order, and nothing else, and its file
+//!   imports no name for clauses that the other's does not;
+//! - each public function `las_..` in the root of a library has one such export, and just one;
 //! - docs/PROMISES.md lists public functions only, and each once;
 //! - every wrong program that it cites, 'what is wrong (`LABEL`): INPUT', stands in that edit with those words, and is
 //!   of the row's function, or of the private one behind "in `f`: ", or in the other tables of a statement;
@@ -28,6 +36,7 @@
 
 mod cited;
 mod crates;
+mod exports;
 mod functions;
 mod programs;
 mod promises;
@@ -50,8 +59,12 @@ pub struct Report {
 
 type Rule = (&'static str, fn(&Repository) -> Result<Vec<String>>);
 
-const RULES: [Rule; 10] = [
+const RULES: [Rule; 11] = [
     ("crates that crates.txt does not list", crates::unlisted),
+    (
+        "exports to C that differ from their functions, or are not one of each",
+        exports::unlike,
+    ),
     (
         "promises of what is no public function",
         promises::of_nothing,
@@ -171,7 +184,7 @@ mod tests {
     pub const PROMISES: &str = "2 wrong programs and statements stand in 2 edits: more.\n\n\
         | Function | Does | Wrong |\n|---|---|---|\n| `c::f` | adds | wrong (`wrong_1`): a is 7 |\n";
 
-    pub const SOURCE: &str = "const ONE: u8 = 1;\npub fn f(a: u8) -> u8\n    ensures { λ r. ⌜ r ≡ next a ⌝ }\n{\n    \
+    pub const SOURCE: &str = "const ONE: u8 = 1;\npub fn f(a: u8) -> u8\n    ensures { result ≡ next a }\n{\n    \
         a + ONE\n}\n";
 
     pub fn edit(name: &str, old: &str, new: &str) -> String {
@@ -202,6 +215,7 @@ mod tests {
                 "ok c::f (crates/c/src/lib.rt:2)",
                 "    0 public functions to which something is objected of 1",
                 "    0 crates that crates.txt does not list",
+                "    0 exports to C that differ from their functions, or are not one of each",
                 "    0 promises of what is no public function",
                 "    0 citations of what is no wrong program",
                 "    0 theorems that cite fewer than two wrong statements",
@@ -211,7 +225,7 @@ mod tests {
                 "    0 constants that two wrong programs of one edit meet in",
                 "    0 comments, contracts, prose and tables that are too wide",
                 "    0 holes and axioms in proofs",
-                "11 passed, 0 failed",
+                "12 passed, 0 failed",
             ]
         );
     }
@@ -225,7 +239,7 @@ mod tests {
                 .lines
                 .contains(&"no c::f (crates/c/src/lib.rt:2)".to_string())
         );
-        assert_eq!(report.lines.last().unwrap(), "8 passed, 3 failed");
+        assert_eq!(report.lines.last().unwrap(), "9 passed, 3 failed");
     }
 
     #[test]

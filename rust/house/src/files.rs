@@ -52,19 +52,6 @@ pub fn with_suffix(root: &Path, folder: &Path, wanted: &str) -> Result<Vec<PathB
     Ok(found)
 }
 
-/// Whether crates.txt lists a crate as a static library.
-pub fn is_static(root: &Path, in_crate: &str) -> Result<bool> {
-    if !root.join("crates.txt").is_file() {
-        return Ok(false);
-    }
-    let listed = lines(root, Path::new("crates.txt"))?;
-    let heads = listed
-        .iter()
-        .filter_map(|line| line.split(['#', ':']).next());
-    let mut words = heads.map(|head| head.split_whitespace().collect::<Vec<_>>());
-    Ok(words.any(|words| words == [in_crate, "staticlib"]))
-}
-
 /// The names of the crates: the folders of `crates/`, in order. Without that folder nothing is the repository.
 pub fn crate_names(root: &Path) -> Result<Vec<String>> {
     if !root.join("crates").is_dir() {

@@ -11,6 +11,7 @@ pub mod audit;
 mod citations;
 pub mod edits;
 mod files;
+mod listed;
 pub mod pack;
 mod scan;
 pub mod sources;

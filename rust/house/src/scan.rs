@@ -101,7 +101,11 @@ pub fn without_comments(text: &str) -> String {
 /// The number of the token just past the bracket that closes the one at `at`.
 pub fn past_bracket(tokens: &[Token], at: usize) -> usize {
     let opening = tokens[at].text;
-    let closing = if opening == "(" { ")" } else { "}" };
+    let closing = match opening {
+        "(" => ")",
+        "[" => "]",
+        _ => "}",
+    };
     let mut depth = 0;
     for (number, token) in tokens.iter().enumerate().skip(at) {
         depth += i32::from(token.text == opening) - i32::from(token.text == closing);
@@ -110,6 +114,12 @@ pub fn past_bracket(tokens: &[Token], at: usize) -> usize {
         }
     }
     tokens.len()
+}
+
+/// A text on one line, with one blank for each white space.
+pub fn on_one_line(text: &str) -> String {
+    let words: Vec<&str> = text.split_whitespace().collect();
+    words.join(" ")
 }
 
 /// Whether tokens end in these.
@@ -185,6 +195,19 @@ mod tests {
         let tokens = tokens(text);
         assert_eq!(tokens[past_bracket(&tokens, 0)].text, "c");
         assert_eq!(past_bracket(&tokens[..3], 0), 3);
+    }
+
+    #[test]
+    fn each_bracket_closes_by_its_own_sign() {
+        let text = "#[a(b[c])] ( ] } )";
+        let tokens = tokens(text);
+        assert_eq!(past_bracket(&tokens, 1), 10);
+        assert_eq!(past_bracket(&tokens, 10), 14);
+    }
+
+    #[test]
+    fn white_space_is_one_blank() {
+        assert_eq!(on_one_line(" a  b\n    ≡ c( d )\n"), "a b ≡ c( d )");
     }
 
     #[test]

@@ -5,9 +5,10 @@ mod declared;
 mod modules;
 
 pub use calls::with_helpers;
-pub use declared::Clause;
+pub use declared::{Clause, Signature};
 
 use crate::files::{self, Result};
+use crate::listed;
 use std::path::{Path, PathBuf};
 
 /// A function of a crate.
@@ -21,8 +22,9 @@ pub struct Function {
     pub name: String,
     /// Open to callers outside its crate.
     pub public: bool,
-    /// For other languages, under its own name.
+    /// `extern "C"`, for other languages under its own name.
     pub exported: bool,
+    pub signature: Signature,
     pub clauses: Vec<Clause>,
     pub body: String,
     pub source: PathBuf,
@@ -41,13 +43,23 @@ impl Function {
         [&steps[..], &[self.name.as_str()]].concat().join("::")
     }
 
-    /// Its name in docs/PROMISES.md: `las_..` exported, `Type::method`, else `crate::module::function`.
+    /// Its name in docs/PROMISES.md: `las_..` for C, `Type::method`, else `crate::module::function`.
     pub fn listed_as(&self) -> String {
         match &self.owner {
-            _ if self.exported => self.name.clone(),
+            _ if self.exported || self.is_for_c() => self.name.clone(),
             Some(owner) => format!("{owner}::{}", self.name),
             None => format!("{}::{}", self.in_crate, self.path()),
         }
+    }
+
+    /// Whether it stands in the root of its crate, and is no method.
+    pub fn in_root(&self) -> bool {
+        self.module.is_empty() && self.owner.is_none()
+    }
+
+    /// Whether a static library has to export it to C.
+    pub fn is_for_c(&self) -> bool {
+        self.public && self.in_root() && self.name.starts_with(FOR_C)
     }
 
     /// Whether its contract has a clause of a kind.
@@ -61,15 +73,15 @@ impl Function {
     }
 }
 
-/// How the names of the functions begin that C calls. They stand in a library, under the name that C knows, and a
-/// static library over it exports them.
+/// How the names of the functions begin that C calls. They stand in the root of a library, under the name that C knows,
+/// and a static library over it exports them.
 const FOR_C: &str = "las_";
 
 /// Each function of a crate. A program's are open to nobody, and those of a static library to C alone: what they
-/// promise is promised by the library that they call.
+/// promise is promised by the function of the library that each calls.
 pub fn functions(root: &Path, in_crate: &str) -> Result<Vec<Function>> {
     let top = files::crate_folder(in_crate).join("src");
-    let is_static = files::is_static(root, in_crate)?;
+    let is_static = listed::is_static(root, in_crate)?;
     let sources = files::with_suffix(root, &top, "rt")?;
     let hidden = modules::hidden(root, &top, &sources)?;
     let mut found = Vec::new();
@@ -81,10 +93,10 @@ pub fn functions(root: &Path, in_crate: &str) -> Result<Vec<Function>> {
                 in_crate: in_crate.to_string(),
                 module: module.clone(),
                 owner: one.owner,
-                exported: one.exported
-                    || one.public && module.is_empty() && one.name.starts_with(FOR_C),
                 name: one.name,
                 public: open && one.public && !is_static,
+                exported: one.exported,
+                signature: one.signature,
                 clauses: one.clauses,
                 body: one.body,
                 source: source.clone(),
@@ -149,7 +161,7 @@ mod tests {
             ("crates.txt", "c: d\nc_c staticlib: c # for C\n"),
             (
                 "crates/c/src/lib.rt",
-                "pub mod m;\npub fn las_f() {}\npub fn g() {}\n",
+                "pub mod m;\npub fn las_f() {}\npub fn g() {}\nimpl T {\n    pub fn las_k() {}\n}\nfn las_l() {}\n",
             ),
             ("crates/c/src/m.rt", "pub fn las_h() {}\n"),
             (
@@ -162,11 +174,25 @@ mod tests {
             found.iter().map(|f| (f.listed_as(), f.public)).collect()
         };
         let open = |name: &str| (name.to_string(), true);
+        let shut = |name: &str| (name.to_string(), false);
         assert_eq!(
             listed("c"),
-            [open("las_f"), open("c::g"), open("c::m::las_h")]
+            [
+                open("las_f"),
+                open("c::g"),
+                open("T::las_k"),
+                shut("c::las_l"),
+                open("c::m::las_h")
+            ]
         );
-        assert_eq!(listed("c_c"), [("las_f".to_string(), false)]);
+        assert_eq!(listed("c_c"), [shut("las_f")]);
+        let found = functions(sample.root(), "c").unwrap();
+        let for_c: Vec<&str> = found
+            .iter()
+            .filter(|f| f.is_for_c())
+            .map(|f| f.name.as_str())
+            .collect();
+        assert_eq!(for_c, ["las_f"]);
     }
 
     #[test]

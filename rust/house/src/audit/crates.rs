@@ -3,26 +3,13 @@
 use super::repository::Repository;
 use crate::files::{self, Result};
 use std::collections::BTreeSet;
-use std::path::Path;
-
-/// The names before the colons of crates.txt; behind one may stand what it is, as in `NAME staticlib: ..`.
-fn listed(text: &str) -> BTreeSet<&str> {
-    let heads = text
-        .lines()
-        .filter_map(|line| line.split(['#', ':']).next());
-    heads
-        .filter_map(|head| head.split_whitespace().next())
-        .collect()
-}
 
 /// The crates that crates.txt does not list.
 pub fn unlisted(repository: &Repository) -> Result<Vec<String>> {
-    let text = files::read(&repository.root, Path::new("crates.txt"))?;
-    let listed = listed(&text);
     let missing = repository
         .crates
         .iter()
-        .filter(|(name, _)| !listed.contains(name.as_str()));
+        .filter(|(name, _)| !repository.listed.iter().any(|listed| listed.name == *name));
     Ok(missing
         .map(|(name, _)| format!("crates/{name}: not in crates.txt"))
         .collect())
@@ -79,14 +66,20 @@ pub fn table(repository: &Repository) -> Result<Vec<String>> {
 #[cfg(test)]
 mod tests {
     use super::super::tests::objections;
-    use super::*;
 
     #[test]
-    fn names_stand_before_colons_and_outside_comments() {
-        assert_eq!(
-            Vec::from_iter(listed("# a: b\nc: d\n e : f # g\n\nh\n")),
-            ["c", "e", "h"]
-        );
+    fn a_static_library_is_listed_by_its_name() {
+        let with = |list: &str| objections(&[("crates.txt", list), ("crates/e/src/lib.rt", "")]);
+        assert!(with("c:\ne staticlib: c\n").is_empty());
+        assert!(with("c:\n e  staticlib :c # for C\n").is_empty());
+        for list in [
+            "c:\nstaticlib e: c\n",
+            "c:\nstaticlib: e c\n",
+            "c: e staticlib\n",
+            "c:\n# e staticlib: c\n",
+        ] {
+            assert_eq!(with(list), ["crates/e: not in crates.txt"], "{list}");
+        }
     }
 
     #[test]

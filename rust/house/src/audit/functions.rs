@@ -3,8 +3,8 @@
 use super::repository::Repository;
 use crate::sources::{self, Function};
 
-/// What is objected to in a public function.
-pub fn objections(repository: &Repository, function: &Function) -> Vec<String> {
+/// What is objected to in the contract of a function that is open to callers.
+pub fn of_contract(function: &Function) -> Vec<String> {
     let mut found = Vec::new();
     if function.has("requires") {
         found.push("has a `requires`".to_string());
@@ -12,6 +12,12 @@ pub fn objections(repository: &Repository, function: &Function) -> Vec<String> {
     if !function.has("ensures") {
         found.push("has no `ensures`".to_string());
     }
+    found
+}
+
+/// What is objected to in a public function.
+pub fn objections(repository: &Repository, function: &Function) -> Vec<String> {
+    let mut found = of_contract(function);
     let name = function.listed_as();
     if !repository
         .promised
@@ -55,7 +61,7 @@ mod tests {
     #[test]
     fn a_contract_without_ensures_is_objected_to() {
         let source = SOURCE.replace(
-            "    ensures { λ r. ⌜ r ≡ next a ⌝ }\n",
+            "    ensures { result ≡ next a }\n",
             "    // ensures { a }\n",
         );
         assert_eq!(

@@ -3,11 +3,14 @@
 use super::promises;
 use crate::edits::{self, WrongProgram};
 use crate::files::{self, Result};
+use crate::listed::{self, Listed};
 use crate::sources::{self, Function};
 use std::path::{Path, PathBuf};
 
 pub struct Repository {
     pub root: PathBuf,
+    /// What crates.txt says.
+    pub listed: Vec<Listed>,
     /// The crates by name, with their functions.
     pub crates: Vec<(String, Vec<Function>)>,
     pub programs: Vec<WrongProgram>,
@@ -27,6 +30,7 @@ impl Repository {
         let paper = files::read(root, Path::new(promises::PAPER))?;
         Ok(Repository {
             root: root.to_path_buf(),
+            listed: listed::listed(root)?,
             crates,
             programs: edits::wrong_programs(root)?,
             promised: promises::promised(&paper),

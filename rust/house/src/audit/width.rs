@@ -289,7 +289,7 @@ mod tests {
     #[test]
     fn a_wide_contract_is_objected_to() {
         let source = SOURCE.replace("next a", &format!("next\n{}", "a".repeat(121)));
-        let wanted = "crates/c/src/lib.rt:4: `ensures` of f of 125 columns";
+        let wanted = "crates/c/src/lib.rt:4: `ensures` of f of 123 columns";
         assert_eq!(objections(&[("crates/c/src/lib.rt", &source)]), [wanted]);
     }
 }

@@ -3,12 +3,23 @@
 use crate::scan::{self, Token};
 use std::ops::Range;
 
-/// A `requires` or an `ensures`, and its lines.
+/// A `requires` or an `ensures`, its lines, and its text on one line.
 #[derive(Clone, Debug, PartialEq)]
 pub struct Clause {
     pub kind: String,
     pub first: usize,
     pub last: usize,
+    pub text: String,
+}
+
+/// What stands before a function's contract, each on one line.
+#[derive(Debug, PartialEq)]
+pub struct Signature {
+    /// Its attributes and whom it is open to: all before its `fn`.
+    pub head: String,
+    /// By name and type.
+    pub parameters: Vec<String>,
+    pub result: String,
 }
 
 /// A function as its text declares it.
@@ -18,6 +29,7 @@ pub struct Declared {
     pub name: String,
     pub public: bool,
     pub exported: bool,
+    pub signature: Signature,
     pub clauses: Vec<Clause>,
     pub body: String,
     pub line: usize,
@@ -74,7 +86,8 @@ fn declared(
     let public = is_public(&tokens[..first]);
     let near = scan::ends_with(&tokens[..first], &["pub", "(", "crate", ")"]);
     let begins = first - usize::from(public) - if near { 4 } else { 0 };
-    let (clauses, next) = contract(code, tokens, at);
+    let (signature, next) = signature(code, tokens, at);
+    let (clauses, next) = contract(code, tokens, next);
     Declared {
         owner: owners
             .iter()
@@ -83,6 +96,7 @@ fn declared(
         name: tokens[at + 1].text.to_string(),
         public,
         exported,
+        signature,
         clauses,
         body: body(code, tokens, next),
         line: scan::line_at(code, tokens[begins].at),
@@ -98,6 +112,54 @@ fn next_of(tokens: &[Token], at: usize, wanted: &[&str]) -> usize {
     found.map_or(tokens.len(), |steps| at + steps)
 }
 
+/// The text of some tokens on one line.
+fn text_of(code: &str, tokens: &[Token]) -> String {
+    match (tokens.first(), tokens.last()) {
+        (Some(first), Some(last)) => scan::on_one_line(&code[first.at..last.end()]),
+        _ => String::new(),
+    }
+}
+
+/// What stands before the `fn` at `at`, without the attributes of the whole file, `#![..]`.
+fn head(code: &str, tokens: &[Token], at: usize) -> String {
+    let before = &tokens[..at];
+    let ends = |token: &Token| [";", "{", "}"].contains(&token.text);
+    let mut first = before.iter().rposition(ends).map_or(0, |last| last + 1);
+    while text_of(code, &before[first..]).starts_with("#![") {
+        first = scan::past_bracket(before, first + 2);
+    }
+    text_of(code, &before[first..])
+}
+
+/// The texts between the commas of some tokens, but for commas in a bracket.
+fn between_commas(code: &str, tokens: &[Token]) -> Vec<String> {
+    let mut depth = 0;
+    let parts = tokens.split(|token| {
+        depth += i32::from(["(", "[", "{"].contains(&token.text));
+        depth -= i32::from([")", "]", "}"].contains(&token.text));
+        depth == 0 && token.text == ","
+    });
+    let texts = parts.map(|part| text_of(code, part));
+    texts.filter(|text| !text.is_empty()).collect()
+}
+
+/// The signature of the function whose `fn` is the token at `at`, and the token behind it.
+fn signature(code: &str, tokens: &[Token], at: usize) -> (Signature, usize) {
+    let opens = next_of(tokens, at, &["("]);
+    let closed = match opens < tokens.len() {
+        true => scan::past_bracket(tokens, opens),
+        false => opens,
+    };
+    let inside = tokens.get(opens + 1..closed.saturating_sub(1));
+    let next = next_of(tokens, closed, &["requires", "ensures", "{"]);
+    let signature = Signature {
+        head: head(code, tokens, at),
+        parameters: between_commas(code, inside.unwrap_or_default()),
+        result: text_of(code, &tokens[closed..next]),
+    };
+    (signature, next)
+}
+
 /// The brace of the clause that begins at `at`, if one does: `ensures {`, `ensures name {`, `ensures* name {`.
 fn clause_opens(tokens: &[Token], at: usize) -> Option<usize> {
     ["requires", "ensures"]
@@ -109,17 +171,8 @@ fn clause_opens(tokens: &[Token], at: usize) -> Option<usize> {
     (tokens.get(opens)?.text == "{").then_some(opens)
 }
 
-/// The clauses behind a function's parameters and result, and the token behind them.
-fn contract(code: &str, tokens: &[Token], at: usize) -> (Vec<Clause>, usize) {
-    let parameters = next_of(tokens, at, &["("]);
-    if parameters == tokens.len() {
-        return (Vec::new(), parameters);
-    }
-    let mut at = next_of(
-        tokens,
-        scan::past_bracket(tokens, parameters),
-        &["requires", "ensures", "{"],
-    );
+/// The clauses that begin at `at`, and the token behind them.
+fn contract(code: &str, tokens: &[Token], mut at: usize) -> (Vec<Clause>, usize) {
     let mut clauses = Vec::new();
     while let Some(kind) = tokens.get(at) {
         let Some(opens) = clause_opens(tokens, at) else {
@@ -130,6 +183,7 @@ fn contract(code: &str, tokens: &[Token], at: usize) -> (Vec<Clause>, usize) {
             kind: kind.text.to_string(),
             first: scan::line_at(code, kind.at),
             last: scan::line_at(code, tokens[past - 1].at),
+            text: text_of(code, &tokens[at..past]),
         });
         at = past;
     }
@@ -168,6 +222,33 @@ mod tests {
     }
 
     #[test]
+    fn what_stands_before_a_contract() {
+        let said = |text: &str| only(text).signature;
+        let signature = |head: &str, parameters: &[&str], result: &str| Signature {
+            head: head.to_string(),
+            parameters: parameters.iter().map(|one| one.to_string()).collect(),
+            result: result.to_string(),
+        };
+        let wide = "use a::b;\n// c\n#[unsafe(no_mangle)]\npub extern \"C\" fn f(\n    a: &[u8], // d\n    \
+            b: (u8, [u8; 4]),\n) -> (u8,\n    u16)\n    ensures { c }\n{\n}";
+        let parameters = ["a: &[u8]", "b: (u8, [u8; 4])"];
+        let head = "#[unsafe(no_mangle)] pub extern \"C\"";
+        assert_eq!(said(wide), signature(head, &parameters, "-> (u8, u16)"));
+        assert_eq!(said("#![a(b[c])]\nfn f() {}"), signature("", &[], ""));
+        assert_eq!(said("#![a]\n#[b]\npub fn f() {}").head, "#[b] pub");
+        assert_eq!(
+            said("const A: u8 = { 1 } #[b(c)] fn f() {}").head,
+            "#[b(c)]"
+        );
+        assert_eq!(
+            said("impl A { pub(crate) fn f(&self) {} }").head,
+            "pub(crate)"
+        );
+        assert_eq!(said("fn f"), signature("", &[], ""));
+        assert_eq!(said("#![a fn f("), signature("", &[], ""));
+    }
+
+    #[test]
     fn a_contract_and_a_body() {
         let text = "pub fn f(a: &[u8; 4], g: (u8, u8)) -> usize\n    requires { (a) }\n    ensures {\n  {result} }\n{\n\
             // }\n    b\"}\"\n}\nconst A: usize = 1;";
@@ -178,6 +259,12 @@ mod tests {
             .map(|clause| (clause.kind.as_str(), clause.first, clause.last))
             .collect();
         assert_eq!(lines, [("requires", 2, 2), ("ensures", 3, 4)]);
+        let texts: Vec<&str> = function
+            .clauses
+            .iter()
+            .map(|clause| &clause.text[..])
+            .collect();
+        assert_eq!(texts, ["requires { (a) }", "ensures { {result} }"]);
         assert_eq!(function.body, "{\n    \n    b\"}\"\n}");
     }
 
