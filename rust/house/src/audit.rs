@@ -27,7 +27,8 @@
 //! - each row of its table of theorems cites at least two;
 //! - it says how many wrong programs there are, and how many edits;
 //! - every wrong program says where it differs: '# NAME: what is wrong; differs where INPUT';
-//! - every wrong program of a function changes that function, or a constant that it reads;
+//! - every wrong program of a function changes that function's code, or a constant that it reads, and beside these
+//!   nothing but the files of that function's own proof;
 //! - no wrong program changes a constant that the function of another one in its edit reads: that one would be refused
 //!   for a change that is not its own;
 //! - comments, contracts and the prose of *.md end by column 120 (not `use` lines, code, proof terms or edits), rows of

@@ -134,21 +134,15 @@ mod tests {
 
     #[test]
     fn a_function_is_refused_by_its_own_proof_and_a_law_by_its_file() {
-        assert!(
-            named("m::T::f")
-                .proofs()
-                .contains(&"proofs/m/T/f/Answers.antt".to_string())
+        let in_folders = |first: &str, second: &str| {
+            let names = ["Answers", "Invariants", "Proof"];
+            [first, second].map(|folder| names.map(|name| format!("proofs/{folder}/{name}.antt")))
+        };
+        assert_eq!(
+            named("m::T::f").proofs(),
+            in_folders("m/T/f", "m/T/+f").as_flattened()
         );
-        assert!(
-            named("m::f")
-                .proofs()
-                .contains(&"proofs/m/+f/Proof.antt".to_string())
-        );
-        assert!(
-            named("f")
-                .proofs()
-                .contains(&"proofs/+f/Proof.antt".to_string())
-        );
+        assert_eq!(named("f").proofs(), in_folders("f", "+f").as_flattened());
         assert_eq!(named("m::T::f").function(), "f");
         assert_eq!(
             named("capi::Accepted.answer-if").proofs(),

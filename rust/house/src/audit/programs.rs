@@ -6,6 +6,7 @@ use crate::files::Result;
 use crate::scan;
 use crate::sources::Function;
 use std::collections::BTreeSet;
+use std::path::Path;
 
 /// Those that do not say where they differ.
 pub fn without_input(repository: &Repository) -> Result<Vec<String>> {
@@ -16,11 +17,17 @@ pub fn without_input(repository: &Repository) -> Result<Vec<String>> {
     Ok(objected.collect())
 }
 
-/// Whether a change is made in a function's own code, or in its answers, whose goals go by the code's conditions.
-fn changes(program: &WrongProgram, change: &Change, function: &Function) -> bool {
+/// Whether a change is of code, and not of a proof, a comment or white space alone.
+fn of_code(change: &Change) -> bool {
+    let texts = |text| scan::tokens(text).into_iter().map(|token| token.text);
+    change.file.starts_with("src/") && texts(&change.old).ne(texts(&change.new))
+}
+
+/// Whether a change is made in a function's own code.
+fn in_body(program: &WrongProgram, change: &Change, function: &Function) -> bool {
     let code = scan::before_comment(&change.old, "//").trim();
-    let in_body = program.path(&change.file) == function.source && function.body.contains(code);
-    in_body || program.proofs().contains(&change.file)
+    let in_source = program.path(&change.file) == function.source;
+    in_source && !code.is_empty() && function.body.contains(code)
 }
 
 /// Whether a function's code has one of some constants.
@@ -29,7 +36,20 @@ fn reads_any(function: &Function, constants: &BTreeSet<String>) -> bool {
     constants.any(|constant| scan::has_word(&function.body, constant))
 }
 
+/// Whether a change is of a function's own code, or of a constant that it reads.
+fn changes(
+    root: &Path,
+    program: &WrongProgram,
+    change: &Change,
+    function: &Function,
+) -> Result<bool> {
+    let constants = program.constants_of(root, change)?;
+    let touches = reads_any(function, &constants) || in_body(program, change, function);
+    Ok(touches && of_code(change))
+}
+
 /// Those that change something else than their function: its proof would be refused for another's change, or for none.
+/// Beside its code they may change its own proof, which goes by the code's conditions; alone that shows nothing.
 pub fn of_another(repository: &Repository) -> Result<Vec<String>> {
     let mut found = Vec::new();
     let of_functions = repository
@@ -45,11 +65,17 @@ pub fn of_another(repository: &Repository) -> Result<Vec<String>> {
             ));
             continue;
         };
+        let (mut of_it, mut of_others) = (0, 0);
         for change in &program.changes {
-            let constants = program.constants_of(&repository.root, change)?;
-            if !reads_any(function, &constants) && !changes(program, change, function) {
+            if changes(&repository.root, program, change, function)? {
+                of_it += 1;
+            } else if !program.proofs().contains(&change.file) {
+                of_others += 1;
                 found.push(format!("{}: changes something else", program.cited()));
             }
+        }
+        if of_it + of_others == 0 {
+            found.push(format!("{}: changes no code", program.cited()));
         }
     }
     Ok(found)
@@ -83,13 +109,25 @@ mod tests {
     const LIB: &str = "crates/c/src/lib.rt";
     const PAPER: &str = "docs/PROMISES.md";
     const THIRD: &str = "crates/c/must-fail/wrong_3.edit";
+    const PROOFS: [&str; 7] = [
+        "crates/c/proofs/f/Answers.antt",
+        "crates/c/proofs/f/Invariants.antt",
+        "crates/c/proofs/f/Proof.antt",
+        "crates/c/proofs/+f/Answers.antt",
+        "crates/c/proofs/g/Answers.antt",
+        "crates/c/proofs/Laws.antt",
+        "crates/c/specs/S.antt",
+    ];
 
     fn with_program(text: &str) -> Vec<String> {
-        let source = format!("{SOURCE}fn g() {{\n    9\n}}\nfn h() {{\n    ONE\n}}\n");
+        let source = SOURCE.replace("a + ONE", "a + ONE // sum");
+        let source = format!("{source}fn g() {{\n    9\n}}\nfn h() {{\n    ONE\n}}\n");
         let count = 2 + text.matches("# ").count();
         let paper = PROMISES.replace("2 wrong", &format!("{count} wrong"));
         let paper = paper.replace("2 edits", "3 edits");
-        objections(&[(LIB, &source), (THIRD, text), (PAPER, &paper)])
+        let mut files = vec![(LIB, &source[..]), (THIRD, text), (PAPER, &paper)];
+        files.extend(PROOFS.map(|file| (file, "x = refl\nconst ONE: u8 = 1;\n")));
+        objections(&files)
     }
 
     #[test]
@@ -118,6 +156,52 @@ mod tests {
             ["c/wrong_3: k is no function"]
         );
         assert!(with_program(&edit("Laws.k", "9", "8")).is_empty());
+    }
+
+    #[test]
+    fn one_may_change_the_proof_of_its_function_beside_its_code() {
+        let code = edit("f", "a + ONE", "0");
+        let pair =
+            |file: &str| format!("file: {file}\nold: refl\nnew: sym\nold: ONE: u8\nnew: ONE: u9\n");
+        for file in ["f/Answers", "f/Invariants", "f/Proof", "+f/Answers"] {
+            let own = pair(&format!("proofs/{file}.antt"));
+            assert!(with_program(&(code.clone() + &own)).is_empty(), "{file}");
+            let named = "# f: wrong; differs where a is 7\n";
+            assert_eq!(
+                with_program(&(named.to_string() + &own)),
+                ["c/wrong_3: f: wrong: changes no code"],
+                "{file}"
+            );
+        }
+        for file in ["proofs/g/Answers.antt", "proofs/Laws.antt", "specs/S.antt"] {
+            assert_eq!(
+                with_program(&(code.clone() + &pair(file))),
+                ["c/wrong_3: f: wrong: changes something else"; 2],
+                "{file}"
+            );
+        }
+    }
+
+    #[test]
+    fn one_that_changes_nothing_or_a_comment_is_objected_to() {
+        let named = "# f: wrong; differs where a is 7\n";
+        assert_eq!(
+            with_program(named),
+            ["c/wrong_3: f: wrong: changes no code"]
+        );
+        for (old, new) in [
+            ("a + ONE // sum", "a + ONE // no sum"),
+            ("// sum", "// no sum"),
+            ("a + ONE", " a +  ONE"),
+            ("// sum", "0"),
+        ] {
+            assert_eq!(
+                with_program(&edit("f", old, new)),
+                ["c/wrong_3: f: wrong: changes something else"],
+                "{old}"
+            );
+        }
+        assert!(with_program(&edit("f", "a + ONE // sum", "a // sum")).is_empty());
     }
 
     #[test]
