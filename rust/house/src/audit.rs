@@ -25,7 +25,8 @@
 //! - every wrong program that it cites, 'what is wrong (`LABEL`): INPUT', stands in that edit with those words, and is
 //!   of the row's function, or of the private one behind "in `f`: ", or in the other tables of a statement;
 //! - each row of its table of theorems cites at least two;
-//! - it says how many wrong programs there are, and how many edits;
+//! - it says how many wrong programs there are, and how many edits; and also how many are of functions of a crate that
+//!   has no public one, since no row can list these. Whether each of the others is cited is not asked;
 //! - every wrong program says where it differs: '# NAME: what is wrong; differs where INPUT';
 //! - every wrong program of a function changes that function's code, or a constant that it reads, and beside these
 //!   nothing but the files of that function's own proof;
@@ -34,6 +35,8 @@
 //! - comments, contracts and the prose of *.md end by column 120 (not `use` lines, code, proof terms or edits), rows of
 //!   tables by 130, but for docs/PROMISES.md and rows with `<br>`;
 //! - no proof has a hole or cites the axioms `lem` and `ac`.
+//!
+//! What rt makes, crates/NAME/out, is left out.
 
 mod cited;
 mod crates;

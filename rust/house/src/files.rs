@@ -26,13 +26,20 @@ pub fn remove(root: &Path, file: &Path) -> Result<()> {
     fs::remove_file(root.join(file)).map_err(|error| said(file, error))
 }
 
-/// All files below a folder in order, without folders of the names left out. A folder that is not there has none.
+/// Whether rt makes a folder: crates/NAME/out, and none that is deeper, as the proofs of a function `out` may be.
+fn is_made(path: &Path) -> bool {
+    let steps: Vec<_> = path.iter().collect();
+    matches!(steps[..], [crates, _, out] if crates == "crates" && out == "out")
+}
+
+/// All files below a folder in order, without what rt makes and without folders of the names left out. A folder that is
+/// not there has none.
 pub fn below(root: &Path, folder: &Path, left_out: &[&str]) -> Result<Vec<PathBuf>> {
     let (mut found, mut todo) = (Vec::new(), vec![folder.to_path_buf()]);
     while let Some(folder) = todo.pop() {
         for path in entries(root, &folder)? {
             let full = root.join(&path);
-            if left_out.iter().any(|name| path.ends_with(name)) {
+            if is_made(&path) || left_out.iter().any(|name| path.ends_with(name)) {
                 continue;
             } else if full.is_file() {
                 found.push(path);

@@ -5,6 +5,8 @@ use super::repository::Repository;
 use crate::citations::{self, Owners};
 use crate::edits;
 use crate::files::Result;
+use crate::scan;
+use std::collections::BTreeSet;
 
 /// The head of the table of theorems, and how many wrong statements each row cites at least.
 const THEOREMS: &str = "Demand";
@@ -54,21 +56,43 @@ pub fn too_few(repository: &Repository) -> Result<Vec<String>> {
         .collect())
 }
 
-/// The sentence that counts all wrong programs and edits, where it is not the true one.
-pub fn miscounted(repository: &Repository) -> Result<Vec<String>> {
+/// The sentence that counts all wrong programs and edits.
+fn count_of_all(repository: &Repository) -> Result<String> {
     let mut edits = 0;
     for (name, _) in &repository.crates {
         edits += edits::edits_of(&repository.root, name)?.len();
     }
     let programs = repository.programs.len();
-    let wanted = format!("{programs} wrong programs and statements stand in {edits} edits");
-    let words: Vec<&str> = repository.paper.split_whitespace().collect();
-    Ok(
-        match format!(" {}", words.join(" ")).contains(&format!(" {wanted}")) {
-            true => Vec::new(),
-            false => vec![format!("{PAPER}: does not say that {wanted}")],
-        },
-    )
+    Ok(format!(
+        "{programs} wrong programs and statements stand in {edits} edits"
+    ))
+}
+
+/// The sentence that counts those of a crate's functions where none is public: no row can list them.
+fn count_of_private(repository: &Repository, in_crate: &str) -> Option<String> {
+    let functions = repository.functions_of(in_crate);
+    let of_functions = repository.programs_of(in_crate);
+    let labels: Vec<&str> = of_functions
+        .filter(|program| !program.is_law())
+        .map(|program| program.label.as_str())
+        .collect();
+    let (programs, edits) = (labels.len(), BTreeSet::from_iter(labels).len());
+    let none_is_listed = programs > 0 && !functions.iter().any(|function| function.public);
+    none_is_listed.then(|| {
+        format!("`{in_crate}` has no public function: {programs} wrong programs in {edits} edits")
+    })
+}
+
+/// The sentences that count wrong programs and edits, where they are not the true ones.
+pub fn miscounted(repository: &Repository) -> Result<Vec<String>> {
+    let mut wanted = vec![count_of_all(repository)?];
+    let names = repository.crates.iter().map(|(name, _)| name);
+    wanted.extend(names.filter_map(|name| count_of_private(repository, name)));
+    let said = format!(" {}", scan::on_one_line(&repository.paper));
+    wanted.retain(|wanted| !said.contains(&format!(" {wanted}")));
+    let objected = wanted.iter();
+    let objected = objected.map(|wanted| format!("{PAPER}: does not say that {wanted}"));
+    Ok(objected.collect())
 }
 
 #[cfg(test)]
@@ -148,5 +172,39 @@ mod tests {
         }
         let broken = PROMISES.replace("stand in", "stand\nin");
         assert!(objections(&[(PAPER, &broken)]).is_empty());
+    }
+
+    #[test]
+    fn wrong_programs_of_a_crate_without_a_public_function_have_to_be_counted() {
+        let edit = "file: src/main.rt\n# f: u; differs where 1\nold: 1\nnew: 2\n# g: v; differs where 2\nold: 3\n\
+            new: 4\nfile: specs/S.antt\n# S.a: w; differs where 3\nold: a\nnew: b\n";
+        let counted = PROMISES.replace("2 wrong", "5 wrong");
+        let counted = counted.replace("2 edits", "3 edits");
+        let with = |sentence: &str| {
+            objections(&[
+                ("crates.txt", "c:\np: c\n"),
+                ("crates/p/src/main.rt", "fn f() { 1 }\nfn g() { 3 }\n"),
+                ("crates/p/specs/S.antt", "a\n"),
+                ("crates/p/must-fail/wrong_1.edit", edit),
+                (PAPER, &format!("{counted}\n{sentence}\n")),
+            ])
+        };
+        let wanted = "`p` has no public function: 2 wrong programs in 1 edits";
+        assert!(
+            with(&format!(
+                "The program {}, of `f` and `g`.",
+                wanted.replace(": ", ":\n")
+            ))
+            .is_empty()
+        );
+        for other in [
+            "",
+            "`p` has no public function: 3 wrong programs in 1 edits",
+        ] {
+            assert_eq!(
+                with(other),
+                [format!("{PAPER}: does not say that {wanted}")]
+            );
+        }
     }
 }

@@ -102,4 +102,17 @@ mod tests {
         );
         assert!(with("f = g -- ? ac\n").is_empty());
     }
+
+    #[test]
+    fn what_rt_makes_is_left_out_and_the_proof_of_a_function_out_is_not() {
+        let with = |file: &str| objections(&[(file, "f = ?\n")]);
+        assert!(with("crates/c/out/proofs/f/Goals.antt").is_empty());
+        for file in [
+            "crates/c/proofs/out/Answers.antt",
+            "crates/c/proofs/m/out/Answers.antt",
+            "crates/c/specs/out.antt",
+        ] {
+            assert_eq!(with(file), [format!("{file}:1: a hole")]);
+        }
+    }
 }

@@ -11,8 +11,8 @@ use std::path::Path;
 
 const WIDTH: usize = 120;
 const TABLE_WIDTH: usize = 130;
-/// What cargo, rt and git write.
-const LEFT_OUT: [&str; 3] = ["target", "out", ".git"];
+/// What cargo and git write.
+const LEFT_OUT: [&str; 2] = ["target", ".git"];
 
 /// A line that may be too wide, with its number.
 type Line<'a> = (usize, &'a str);
