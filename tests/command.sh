@@ -163,7 +163,7 @@ until [[ $needed == "$all" ]]; do
     needed=$(needs $all)
 done
 crates=$(wc -l <<<"$needed")
-proving="proving, about 5 minutes the first time: "
+proving="proving, 2 to 5 minutes the first time: "
 
 # cards, from any folder, by any name
 

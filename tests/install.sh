@@ -218,7 +218,7 @@ wanted_files=$({
 
 # a prefix that is relative and has a blank in its name
 
-proving="proving, about 5 minutes the first time: "
+proving="proving, 3 to 8 minutes the first time: "
 working="*building the command korbishaf"
 KORBISHAF_LIB_DIR=/nowhere gives "a prefix" 0 "$(installed "$here/a prefix")" "$working" 'a prefix'
 holds "a prefix: these files and no others" test "$(files_in 'a prefix')" = "$wanted_files"
@@ -416,12 +416,30 @@ echo "\$name \$1" >>'$here/calls'
 if [[ \$name == capi ]]; then
     mkdir -p ../{fields,points,sheet,scaling,lasfile,reader,geokeys,publicpart,tally,release,editor,capi}/out/rlib
     sleep 0.3
-    for made in ../*/out/rlib; do [[ -e \$made/stamp ]] || echo >"\$made/stamp"; done
+    # as by rt itself, a note has a checksum of what stands in the sources; one that is right stays
+    for made in ../*/out/rlib; do
+        sum=\$(find "\$made/../../src" -type f -exec cat {} + | sha256sum)
+        [[ -e \$made/stamp && \$(<"\$made/stamp") == "\$sum" ]] || echo "\$sum" >"\$made/stamp"
+        [[ ! -e '$here/old' ]] || touch -d '2 days ago' "\$made/stamp"
+    done
+    [[ ! -e '$here/unnoted' ]] || rm ../fields/out/rlib/stamp
 else
     mkdir -p out && cp '$root/target/staticlib/libcapi.a' out/libcapi_c.a
-    [[ ! -e '$here/slow' ]] || { echo \$\$ >'$here/mark'; exec sleep 100; }
-    [[ ! -e '$here/unproved' ]] || { echo "fn capi_c::las_level: not proved; all else is"; exit 1; }
+    [[ ! -e '$here/changing' ]] || echo >>src/lib.rt
+    [[ ! -e '$here/unproved' ]] || { cat '$here/unproved'; exit 1; }
+    [[ -e '$here/slow' ]] || exit 0
+    setsid '$scratch/fake/prover' \$\$ &
+    until [[ -e \$TMPDIR/1 ]]; do sleep 0.1; done
+    echo \$\$ >'$here/mark'
+    exec sleep 100
 fi
+END_OF_FAKE
+# a prover is in a group of its own, and writes for a second after rt, the process $1, has ended
+fake prover <<'END_OF_FAKE'
+until [[ -n ${end-} && $SECONDS -ge $end ]]; do
+    [[ -n ${end-} ]] || kill -0 "$1" || end=$((SECONDS + 2))
+    : >"$TMPDIR/$((number += 1))"
+done 2>/dev/null
 END_OF_FAKE
 
 # proves NAME CALLS WORDS: ./install in the copy calls rt with these verbs, each behind the crate in whose folder.
@@ -429,6 +447,31 @@ proves() {
     rm -f calls
     PATH=$scratch/fake:$PATH gives "$1" 0 "$(installed "$here/faked")" "$3" faked
     holds "$1: what it proves" test "$(tr '\n' ' ' <calls)" = "$2 "
+}
+
+# proves_older NAME FILE: ./install proves the library again where the file has another line, though all that the
+# library is made of, rt's notes too, is older: as it is where it comes from an older copy, with its times.
+proves_older() {
+    echo >>"$copy/$2"
+    find "$copy/crates" "$copy/crates.txt" -exec touch -d '2 days ago' {} +
+    : >old
+    proves "$1" "capi lib capi_c lib" "$last"
+    rm old
+    holds "$1: all is older" test -z "$(find "$copy"/crates{.txt,/*/{src,out/rlib/stamp}} -newermt '1 day ago')"
+}
+
+# fails NAME SAID WORDS: where rt fails and says this, ./install says these words of it, and no library is made.
+fails() {
+    # shellcheck disable=SC2059
+    printf "$2" >unproved
+    rm -f "$library"
+    PATH=$scratch/fake:$PATH gives "$1" 3 '' "${proving}12 of 13 crates
+install: proving or building failed; what rt said of it:
+$3
+install: rt ended with status 1; all that it said is in $copy/target/install.log" faked
+    holds "$1: no library" test ! -e "$library"
+    holds "$1: the log" cmp unproved "$copy/target/install.log"
+    rm unproved
 }
 
 # the notes of the twelve libraries are written one behind another, so that some steps may be said between the two
@@ -440,24 +483,62 @@ holds "from nothing: a line for each step, upwards" sort -uc -t: -k2n <(grep "^$
 holds "from nothing: all may read" test -z "$(find faked ! -type l ! -perm -444)"
 holds "from nothing: all may enter" test -z "$(find faked -type d ! -perm -555)"
 proves "current" "capi lib" "building the*"
-sleep 0.01
-touch "$copy/crates/capi/src/lib.rt"
-proves "a changed source" "capi lib capi_c lib" "$last"
-proves "current again" "capi lib" "building the*"
-sleep 0.01
-touch "$copy/crates/fields/out/rlib/stamp"
+for name in capi_c capi; do
+    echo >>"$copy/crates/$name/src/lib.rt"
+    proves "a changed source of $name" "capi lib capi_c lib" "$last"
+    proves "current again" "capi lib" "building the*"
+done
+echo >>"$copy/crates/fields/src/lib.rt"
 proves "a crate below that was proved again" "capi lib capi_c lib" "$last"
+proves_older "an older source of capi_c" crates/capi_c/src/lib.rt
+proves_older "an older source of capi" crates/capi/src/lib.rt
+proves_older "an older source of a crate below" crates/fields/src/lib.rt
+proves_older "an older crates.txt" crates.txt
+find "$copy/crates" "$copy/crates.txt" -exec touch {} +
+proves "newer and the same" "capi lib" "building the*"
+cp "$copy/crates/capi_c/src/lib.rt" before
+rm "$library" && : >changing
+proves "a source that changes meanwhile" "capi lib capi_c lib" "$last"
+rm changing
+cp before "$copy/crates/capi_c/src/lib.rt"
+proves "a source that changed meanwhile and back" "capi lib capi_c lib" "$last"
+: >unnoted
+proves "a crate below that changes meanwhile" "capi lib capi_c lib" "*$last"
+rm unnoted
+proves "a crate below that changed meanwhile" "capi lib capi_c lib" "*$last"
+proves "current once more" "capi lib" "building the*"
+echo >>"$library"
+proves "a damaged library" "capi lib capi_c lib" "$last"
+rm "$library.sums"
+proves "a library that nothing is known of" "capi lib capi_c lib" "$last"
 rm "$library"
 proves "no library" "capi lib capi_c lib" "$last"
-touch unproved
-rm "$library"
-PATH=$scratch/fake:$PATH gives "not proved" 3 '' \
-    "*install: proving or building failed*fn capi_c::las_level: not proved*status 1*$copy/target/install.log" faked
-holds "not proved: no library" test ! -e "$library"
-rm unproved
-touch slow
+fails "not proved" 'rt: chose --jobs 4 for capi_c\nfn capi_c::las_level: not proved; all else is\n  code\n' \
+    "fn capi_c::las_level: not proved; all else is"
+fails "killed" 'rt: chose --jobs 4 for capi_c\nKilled\n' "rt: chose --jobs 4 for capi_c"$'\n'"Killed"
+fails "without a word" '' nothing
+: >slow
 ends_by TERM 15 "TERM to the prover" faked
 holds "TERM to the prover: no library" test ! -e "$library"
+rm slow
+
+# tools/staticlib makes the library that ./install takes; from any folder, and through a link
+
+# builds NAME DIR COMMAND: tools/staticlib, so called in that folder, builds the library in the copy, and ./install
+# takes it as it is.
+builds() {
+    rm -f calls "$library"
+    (cd "$2" && PATH=$scratch/fake:$PATH CDPATH=$here/other "$3") >"$scratch/out" 2>"$scratch/err"
+    said "$1" "$?" 0 '' "${last%$'\n'*}"
+    holds "$1: what it proves" test "$(tr '\n' ' ' <calls)" = "capi lib capi_c lib "
+    holds "$1: not where CDPATH leads" is_empty other/crates/capi_c
+    proves "$1: ./install takes it" "capi lib" "building the*"
+}
+
+mkdir -p other/tools other/crates/capi_c
+ln -s "$copy/tools/staticlib" elsewhere/staticlib
+builds "tools/staticlib" "$copy" tools/staticlib
+builds "tools/staticlib, by a link" "$here" elsewhere/staticlib
 
 echo "$passed passed, $failed failed"
 [[ $failed -eq 0 ]]

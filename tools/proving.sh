@@ -1,9 +1,10 @@
-# What ./las-release and ./install share: they say what goes wrong, prove by rt and say how far it is, and end with all
-# that they have started. It is sourced, by a script that has set 'called', its own name in what it says, and that calls
-# 'prepare' before all but 'stop'. All of it goes to standard error.
+# What ./las-release, ./install and tools/staticlib share: they say what goes wrong, prove by rt and say how far it is,
+# and end with all that they have started. It is sourced, by a script that has set 'called', its own name in what it
+# says, and 'takes', how long proving takes the first time, and that calls 'prepare' before all but 'stop'. All of it
+# goes to standard error.
 # shellcheck shell=bash
 
-: "${called:?is set by the script that sources this}"
+: "${called:?is set by the script that sources this}" "${takes:?is set by it too}"
 root=   # the repository
 own=    # a folder for what the started commands say, and for rt's temporary files
 part=   # a file that is half made at the moment
@@ -17,15 +18,16 @@ stop() {
     exit "$1"
 }
 
-# tidy: ends what still runs, with all that it started, and removes what is half made. KILL, since what is started has
-# nothing of its own to clean up.
+# tidy: ends what still runs, with its process group, and removes what is half made. KILL, since what is started has
+# nothing of its own to clean up. rt's provers are in a group of their own and end a moment after rt: as long as one
+# still writes to the folder, it can't be removed.
 tidy() {
-    local group
+    local group tries=50
     exec 2>/dev/null  # bash would say of each job that it was killed
     for group in $(jobs -pr); do kill -KILL -- "-$group"; done
     wait
     [[ -z $part ]] || rm -f -- "$part"
-    [[ -z $own ]] || rm -rf -- "$own"
+    [[ -z $own ]] || until rm -rf -- "$own" || [[ $((tries -= 1)) -eq 0 ]]; do sleep 0.1; done
 }
 
 # end_progress: what is said next begins a line of its own on a terminal.
@@ -82,8 +84,9 @@ crates_needed() {
         END { visit(wanted) }' "$root/crates.txt"
 }
 
-# note_of CRATE: the file in which rt notes that it has built a library or a program from the sources as they are. It
-# removes the note before it proves the crate, and writes a new one afterwards. Of a static library it has none.
+# note_of CRATE: the file in which rt notes that it has built a library or a program from the sources as they are, by
+# checksums of these. It removes the note before it proves the crate, and writes a new one afterwards; or it takes a
+# library of the same sources, with its note, from elsewhere on this machine. Of a static library it has none.
 note_of() {
     if [[ -e $root/crates/$1/src/main.rt ]]; then
         echo "$root/crates/$1/out/$1.stamp"
@@ -125,7 +128,7 @@ proved() {
 
 # progress DONE NUMBER: says how many of so many crates are proved, where that has grown.
 progress() {
-    local words="proving, about 5 minutes the first time: $1 of $2 crates"
+    local words="proving, $takes the first time: $1 of $2 crates"
     [[ $1 -gt ${shown:--1} ]] || return
     shown=$1
     if [[ -t 2 ]]; then printf '\r%s' "$words" >&2; else printf '%s\n' "$words" >&2; fi
@@ -144,11 +147,24 @@ rt_progress() {
     progress "$(proved "$@")" "$number"
 }
 
+# failures FILE: of what rt said, the lines that say what is not proved or went wrong, without those on how rt goes
+# about it; or the end of it, if it has none. Where it ran a program, only what was said since then.
+failures() {
+    local said
+    said=$(sed '0,/^rt: running /d' "$1")
+    if [[ -z $said ]]; then
+        said=$(grep -E '^(fn .*: (not proved|no proof|could not tell)|[^ ].*[Ee]rror|rattle: |rt: )' "$1" |
+            grep -vE '^rt: (chose|running|waiting|compiling) |^rt: [^ ]*: (begins with|another copy) ')
+        said=${said:-$(<"$1")}
+    fi
+    tail -n 12 <<<"${said:-nothing}"
+}
+
 # rt_proves NUMBER CRATE.. -- IN WORD..: runs rt with these words in the folder of the crate IN, and says how far it is
 # as rt_progress does. Nothing is given to rt to read, and what a program prints that it runs goes to its log. The
 # script ends where rt fails: what an earlier run has built may still be there then.
 rt_proves() {
-    local status number=$1 log=$root/target/$called.log watched=()
+    local status words='' number=$1 log=$root/target/$called.log watched=()
     shift
     while [[ $1 != -- ]]; do
         watched+=("$1")
@@ -169,8 +185,12 @@ rt_proves() {
         return
     fi
     end_progress
-    mkdir -p -- "${log%/*}" && cp -- "$own/rt" "$log"
-    echo "$called: proving or building failed; what rt said of what is not proved:" >&2
-    grep -E '^(fn .*: (not proved|no proof)|[^ ].*error|rt: )' "$own/rt" | tail -n 12 >&2
-    stop 3 "rt ended with status $status; all that it said is in $log"
+    if grep -q '^rt: running ' "$own/rt"; then
+        echo "$called: it is proved and built, but the program failed where rt tried it; what was said then:" >&2
+    else
+        echo "$called: proving or building failed; what rt said of it:" >&2
+    fi
+    failures "$own/rt" >&2
+    if mkdir -p -- "${log%/*}" && cp -- "$own/rt" "$log"; then words="; all that it said is in $log"; fi
+    stop 3 "rt ended with status $status$words"
 }

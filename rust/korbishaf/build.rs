@@ -34,7 +34,7 @@ fn main() {
     println!("cargo::rustc-link-lib=static={name}");
     if found.is_none() {
         println!(
-            "cargo::warning={} is absent: make it with `./install`, or name its folder in KORBISHAF_LIB_DIR",
+            "cargo::warning={} is absent: make it with `tools/staticlib`, or name its folder in KORBISHAF_LIB_DIR",
             library.display()
         );
     }

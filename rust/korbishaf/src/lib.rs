@@ -14,8 +14,8 @@
 //!
 //! The library, `libcapi.a` or `libkorbishaf.a`, is linked from the folder that the environment variable
 //! `KORBISHAF_LIB_DIR` names. Where that is not set, it is linked from the repository's `target/staticlib`, where
-//! `./install` and the gate put it; by a crate that `./install` has put to `PREFIX/share/korbishaf/rust/korbishaf`,
-//! from `PREFIX/lib`.
+//! `tools/staticlib` and `./install` put it; by a crate that `./install` has put to
+//! `PREFIX/share/korbishaf/rust/korbishaf`, from `PREFIX/lib`.
 //!
 //! # Texts
 //!
