@@ -156,7 +156,7 @@ needs() {
 
 # what there is, proved; and how many crates that are
 (cd "$root/crates/las_release" && rt run </dev/null) >"$scratch/rt" 2>&1 || { cat "$scratch/rt"; exit 1; }
-all= needed=las_release
+all='' needed=las_release
 until [[ $needed == "$all" ]]; do
     all=$needed
     # shellcheck disable=SC2086
@@ -292,20 +292,26 @@ holds "TERM to the prover: nothing counts as proved" test -z "$(find "$copy/crat
 copy="$scratch/a copy"
 command=$copy/las-release
 copy_repository "$copy"
-# its libraries as they are: nothing of them is proved again
+# its libraries as they are, with notes of one time: nothing of them is proved again
 for name in $needed; do
     [[ $name == las_release ]] || { mkdir "$copy/crates/$name/out" && cp -a {"$root","$copy"}/crates/"$name"/out/rlib; }
 done
+touch -r "$root/crates.txt" "$copy"/crates/*/out/rlib/stamp
 fresh built
-steps="$proving* of $crates crates"$'\n'"$proving$crates of $crates crates"
+steps="$proving$((crates - 1)) of $crates crates"$'\n'"$proving$crates of $crates crates"
 gives "it builds" 0 "$line" "$steps" built
 holds "it builds: its release" cmp built/out.las "$card/expected.las"
 holds "it builds: a line for each step, upwards" sort -uc -t: -k2n "$scratch/err"
 holds "it builds: nothing is left" is_empty "$TMPDIR"
 releases "what is built is current" built
 program=$copy/crates/las_release/out/las_release
+rm "$program"
+gives "it builds again what is gone" 0 "$line" "$steps" built
 echo damaged >"$program"
 gives "it builds again what is damaged" 0 "$line" "$steps" built
+chmod -x "$program"
+gives "it builds again what may not be run" 0 "$line" "$steps" built
+releases "what is built again is current" built
 # a program that rt has built, in the place of which rt is made to write another
 mkdir "$scratch/fake"
 cat >"$scratch/fake/rt" <<'END_OF_FAKE'
@@ -315,6 +321,24 @@ END_OF_FAKE
 chmod +x "$scratch/fake/rt"
 PATH=$scratch/fake:$PATH gives "a program that says nothing" 3 '' \
     "las-release: the program printed neither*status 7" built
+# one that fails where rt tries it, behind all that rt says of its proof
+cat >"$scratch/fake/rt" <<'END_OF_FAKE'
+#!/bin/sh
+echo 'rt: chose --jobs 4 for las_release'
+echo 'rt: running out/las_release; to give it other input, run that file yourself'
+echo 'what it says'
+exit 7
+END_OF_FAKE
+failure="it is proved and built, but the program failed where rt tried it; what was said then:"$'\n'"what it says"
+PATH=$scratch/fake:$PATH gives "a program that fails where it is tried" 3 '' \
+    "las-release: $failure"$'\n'"las-release: rt ended with status 7; *$copy/target/las-release.log" built
+
+# a scan where the program is built, which it would release there
+
+cp "$card/in.las" "$card/sheet.bin" "$copy/crates/las_release"
+gives "a scan where it is built" 3 '' "las-release: $copy/crates/las_release/in.las has to be moved away: *" built
+holds "a scan where it is built: it is not released" test ! -e "$copy/crates/las_release/out.las"
+rm "$copy"/crates/las_release/{in.las,sheet.bin}
 
 # a build that fails
 
