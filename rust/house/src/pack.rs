@@ -1,6 +1,6 @@
 //! Packs the wrong programs of each crate into as few must-fail edits as will do.
 //!
-//! A try checks the whole crate, so what counts is the number of tries. Two wrong programs share an edit unless
+//! A try costs a check, so what counts is the number of tries. Two wrong programs share an edit unless
 //! - they are of one function, or of one law;
 //! - one edits a file of specs/ that the other's proof or contract rests on, file by file through the `use` lines;
 //! - one's law stands in a file of laws that the other's proof rests on;
