@@ -50,6 +50,16 @@ mod tests {
     use crate::sample::Sample;
 
     #[test]
+    fn names_stand_before_colons_and_outside_comments() {
+        let sample = Sample::new(&[("crates.txt", "# a: b\nc: d\n e : f # g\n\nh\n")]);
+        let found = listed(sample.root()).unwrap();
+        assert_eq!(
+            Vec::from_iter(found.iter().map(|one| one.name.as_str())),
+            ["c", "e", "h"]
+        );
+    }
+
+    #[test]
     fn a_line_says_what_a_crate_is_and_what_it_needs() {
         let sample = Sample::new(&[(
             "crates.txt",
