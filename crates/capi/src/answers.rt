@@ -84,7 +84,7 @@ pub(crate) fn released_numbers(answer: publicpart::Answer) -> las_released
 {
     match answer {
         publicpart::Answer::Released(length, points, records) => released(length, points, records),
-        publicpart::Answer::Short(needed) => refused(refusals::OUTPUT_TOO_SHORT, needed),
+        publicpart::Answer::Short(needed) => refused(Refusal::OutputTooShort, needed),
         publicpart::Answer::Refused(number) => refused(number, 0),
     }
 }

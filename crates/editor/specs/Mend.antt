@@ -3,8 +3,8 @@
 use Rattle.std.specs.Prelude.{ℕ, ◌+◌, ◌-◌, ◌*◌, ◌/◌, ◌^◌, ◌<◌, min, Bool, false, not, List, [], ◌∷◌, ◌++◌, map, length, drop, get_or, replicate}
 use Rattle.std.proofs.lemmas.List.Edits.{sets}
 use Rattle.fields.specs.Bytes.{Bytes, part, same, bytes_of, pieces, numbers_bytes}
-use Rattle.fields.specs.declared.Verdict.{Verdict}
-use Rattle.fields.specs.declared.Verdict.TheVariants.{Passes, Fails}
+use Rattle.fields.specs.Checks.{Verdict}
+use Rattle.fields.specs.Checks.{Passes, Fails}
 use Rattle.scaling.specs.Scaling.{scaling_of}
 use Rattle.lasfile.specs.HeaderFields.{point_offset, format, record_length, point_count}
 use Rattle.lasfile.specs.FileChecks.{mend_verdict}

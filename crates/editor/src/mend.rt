@@ -1,7 +1,7 @@
 // Mends a header that lies: number of points, points by return and bounds are worked out over the points that are
 // there.
 ghost use Rattle.std.specs.Prelude.{◌≡◌, ◌+◌, ◌*◌, ◌^◌, ◌≤◌, ◌<◌, length};
-ghost use Rattle.fields.specs.declared.Verdict.TheVariants.{Passes};
+ghost use Rattle.fields.specs.Checks.{Passes};
 ghost use Rattle.lasfile.specs.HeaderFields.{header_block, format};
 ghost use Rattle.lasfile.specs.FileChecks.{mend_verdict};
 ghost use Rattle.tally.specs.Tally.{tally_of, CountsUpTo};

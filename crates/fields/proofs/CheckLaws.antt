@@ -11,8 +11,8 @@ use lib.ListN.{take, drop}
 use lib.Dec.{T, eqb, ltb, ltb→lt, nltb→le, not_T}
 use Rattle.fields.specs.Bytes.{Bytes, same}
 use Rattle.fields.specs.Lists.{All}
-use Rattle.fields.specs.declared.Verdict.{Verdict}
-use Rattle.fields.specs.declared.Verdict.TheVariants.{Passes, Fails}
+use Rattle.fields.specs.Checks.{Verdict}
+use Rattle.fields.specs.Checks.{Passes, Fails}
 use Rattle.fields.specs.Checks.{Test, ◌below◌, ◌differs_from◌, not_so, ◌or◌, fails, Clear, Check, fail_if, first_failing, then, AllClear}
 use Rattle.fields.proofs.ByteLaws.{same→eq, same_refl}
 

@@ -2,8 +2,6 @@
 -- Assumes nothing.
 use Rattle.std.specs.Prelude.{◌≡◌, ℕ, ◌≤◌, Bool, true, false, ◌||◌, not, List, [], ◌∷◌, T, ltb}
 use Rattle.fields.specs.Bytes.{Bytes, same}
-use Rattle.fields.specs.declared.Verdict.{Verdict}
-use Rattle.fields.specs.declared.Verdict.TheVariants.{Passes, Fails}
 
 infix 5 ◌below◌ ◌differs_from◌
 infixr 4 ◌or◌
@@ -26,6 +24,11 @@ Clear (a below b) = b ≤ a
 Clear (x differs_from y) = x ≡ y
 Clear (not_so b) = T b
 Clear (t or u) = Clear t × Clear u
+
+-- what a table of checks says: that all pass, or the number of the first that fails
+pub data Verdict : Type 0 where
+  Passes : Verdict
+  Fails : ℕ → Verdict
 
 -- a number of the specification's tables (docs/SPECIFICATION.md), given where the test fails
 abbrev pub Check : Type 0

@@ -7,8 +7,8 @@ use native.Mathlib.Omega.{arith}
 use lib.ListN.{length, drop}
 use Rattle.fields.specs.Bytes.{Bytes, AllBytes}
 use Rattle.fields.specs.Checks.{first_failing}
-use Rattle.fields.specs.declared.Verdict.{Verdict}
-use Rattle.fields.specs.declared.Verdict.TheVariants.{Passes, Fails}
+use Rattle.fields.specs.Checks.{Verdict}
+use Rattle.fields.specs.Checks.{Passes, Fails}
 use Rattle.fields.proofs.ByteLaws.{num-part-lt, length-part-le, length-pieces}
 use Rattle.fields.proofs.CheckLaws.{none_fails, then_passed}
 use Rattle.lasfile.specs.Records.{payload_length}

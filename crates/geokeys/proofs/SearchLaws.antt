@@ -11,8 +11,8 @@ use Rattle.fields.specs.Bytes.{Bytes, part, num}
 use Rattle.fields.proofs.ByteLaws.{part-part}
 use Rattle.fields.proofs.CheckLaws.{then_passes, then_first, then_fails}
 use Rattle.fields.specs.Checks.{first_failing}
-use Rattle.fields.specs.declared.Verdict.{Verdict}
-use Rattle.fields.specs.declared.Verdict.TheVariants.{Passes, Fails}
+use Rattle.fields.specs.Checks.{Verdict}
+use Rattle.fields.specs.Checks.{Passes, Fails}
 use Rattle.lasfile.specs.FileChecks.{file_verdict}
 use Rattle.geokeys.specs.declared.GeoKey.{GeoKey}
 use Rattle.geokeys.specs.declared.GeoKey.TheVariants.{Refused}

@@ -4,8 +4,8 @@ use Rattle.std.specs.Prelude.{ℕ, ◌+◌, ◌*◌, Bool, true, false, ◌&&◌
 use Rattle.std.proofs.Math.Option.{Option, none, some}
 use Rattle.fields.specs.Bytes.{Bytes, part, num, same, pieces}
 use Rattle.fields.specs.Checks.{Check, first_failing, then, ◌below◌, ◌differs_from◌, not_so, ◌or◌}
-use Rattle.fields.specs.declared.Verdict.{Verdict}
-use Rattle.fields.specs.declared.Verdict.TheVariants.{Passes, Fails}
+use Rattle.fields.specs.Checks.{Verdict}
+use Rattle.fields.specs.Checks.{Passes, Fails}
 use Rattle.lasfile.specs.Records.{record_at, places, front_size}
 use Rattle.lasfile.specs.HeaderFields.{header_size, record_count}
 use Rattle.lasfile.specs.FileChecks.{file_verdict}

@@ -4,8 +4,8 @@
 use Rattle.std.specs.Prelude.{ℕ, zero, suc, ◌+◌, ◌/◌, Bool, true, false, List, [], ◌∷◌, length, take, drop, get_or, eqb, ltb}
 use Rattle.std.proofs.Math.Option.{Option, none, some}
 use Rattle.fields.specs.Bytes.{Bytes}
-use Rattle.fields.specs.declared.Verdict.{Verdict}
-use Rattle.fields.specs.declared.Verdict.TheVariants.{Passes, Fails}
+use Rattle.fields.specs.Checks.{Verdict}
+use Rattle.fields.specs.Checks.{Passes, Fails}
 use Rattle.geokeys.specs.GeoKeys.{key_of, from_entry, searched, search_verdict}
 use Rattle.geokeys.specs.declared.GeoKey.TheVariants.{Refused}
 use Rattle.geokeys.specs.declared.halving.KeyRead.{KeyRead}

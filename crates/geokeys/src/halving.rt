@@ -1,6 +1,6 @@
 // GeoKey lookups by halving: the search calls itself on one half of the entries that are left.
 ghost use Rattle.std.specs.Prelude.{◌≡◌, ◌+◌, ◌*◌, ◌≤◌, ◌<◌, ◌^◌};
-ghost use Rattle.fields.specs.declared.Verdict.TheVariants.{Passes};
+ghost use Rattle.fields.specs.Checks.{Passes};
 ghost use Rattle.lasfile.specs.FileChecks.{file_verdict};
 ghost use Rattle.geokeys.specs.GeoKeys.{entries};
 ghost use Rattle.geokeys.specs.Halving.{halve, key_read, lookup_by_halving};

@@ -6,7 +6,7 @@ pub mod halving;
 ghost use Rattle.std.specs.Prelude.{◌≡◌, ◌+◌, ◌<◌, ◌^◌};
 ghost use Rattle.std.proofs.Math.Option.{some};
 ghost use Rattle.fields.specs.Checks.{first_failing};
-ghost use Rattle.fields.specs.declared.Verdict.TheVariants.{Passes};
+ghost use Rattle.fields.specs.Checks.{Passes};
 ghost use Rattle.lasfile.specs.FileChecks.{file_verdict};
 ghost use Rattle.geokeys.specs.GeoKeys.{is_projection, projection_place, payload_at, directory_checks, entries, entry_of, in_payload, from_entry, lookup};
 ghost use Rattle.geokeys.specs.Places.{place_in, entry_in, Low, place_if, Searches};
@@ -93,16 +93,16 @@ fn check_directory(directory: &[u8]) -> Verdict
     ensures { result ≡ first_failing (directory_checks directory.now) }
 {
     if directory.len() < ENTRY {
-        return Verdict::Fails(refusals::BAD_DIRECTORY);
+        return Verdict::Fails(Refusal::BadDirectory);
     }
     if !slices::same_bytes(
         slices::part_at(directory, 0, 6),
         b"\x01\x00\x01\x00\x00\x00",
     ) {
-        return Verdict::Fails(refusals::BAD_DIRECTORY);
+        return Verdict::Fails(Refusal::BadDirectory);
     }
     if (directory.len() as u64) < 8 + 8 * number_at(directory, 6, 2) {
-        return Verdict::Fails(refusals::BAD_DIRECTORY);
+        return Verdict::Fails(Refusal::BadDirectory);
     }
     Verdict::Passes
 }
@@ -144,12 +144,12 @@ fn in_payload(entry: &[u8], at: usize, parameters: &[u8]) -> GeoKey
     let offset = number_at(entry, VALUE_OFFSET, 2) as usize;
     if number_at(entry, LOCATION, 2) == DOUBLES {
         if parameters.len() < 8 * offset + 8 {
-            return GeoKey::Refused(refusals::VALUE_PAST_END);
+            return GeoKey::Refused(Refusal::ValuePastEnd);
         }
         return GeoKey::Double(number_at(parameters, 8 * offset, 8));
     }
     if parameters.len() < offset + count {
-        return GeoKey::Refused(refusals::VALUE_PAST_END);
+        return GeoKey::Refused(Refusal::ValuePastEnd);
     }
     GeoKey::Text(at + FRONT + offset, count)
 }
@@ -162,10 +162,10 @@ fn from_entry(file: &[u8], entry: &[u8]) -> GeoKey
     let location = number_at(entry, LOCATION, 2);
     let count = number_at(entry, COUNT, 2);
     if !((location == 0) | ((location == DOUBLES) | (location == TEXTS))) {
-        return GeoKey::Refused(refusals::BAD_LOCATION);
+        return GeoKey::Refused(Refusal::BadLocation);
     }
     if !((location == TEXTS) | (count == 1)) {
-        return GeoKey::Refused(refusals::BAD_COUNT);
+        return GeoKey::Refused(Refusal::BadCount);
     }
     if location == 0 {
         return GeoKey::Value(number_at(entry, VALUE_OFFSET, 2));
@@ -173,7 +173,7 @@ fn from_entry(file: &[u8], entry: &[u8]) -> GeoKey
     let found = find_projection(file, location);
     match found {
         Found::At(at) => in_payload(entry, at, payload_at(file, at)),
-        Found::Nothing => GeoKey::Refused(refusals::NO_PARAMETERS),
+        Found::Nothing => GeoKey::Refused(Refusal::NoParameters),
     }
 }
 
@@ -184,7 +184,7 @@ pub(crate) fn at_entry(file: &[u8], directory: &[u8], found: Found) -> GeoKey
 {
     match found {
         Found::At(at) => from_entry(file, slices::part_at(directory, at, ENTRY)),
-        Found::Nothing => GeoKey::Refused(refusals::NO_KEY),
+        Found::Nothing => GeoKey::Refused(Refusal::NoKey),
     }
 }
 
@@ -207,7 +207,7 @@ pub(crate) fn find_directory(file: &[u8]) -> DirectoryAt
     let found = find_projection(file, DIRECTORY);
     match found {
         Found::At(at) => checked_at(file, at),
-        Found::Nothing => DirectoryAt::Refused(refusals::NO_DIRECTORY),
+        Found::Nothing => DirectoryAt::Refused(Refusal::NoDirectory),
     }
 }
 

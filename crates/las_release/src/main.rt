@@ -44,7 +44,7 @@ fn release_folder<R: Files>(rt: &R) -> Result<Released, u64> {
     match release::release(file, sheet, &mut out) {
         Answer::Released(length, points, records) => {
             if output::save(rt, slices::part_at(&out, 0, length)).is_err() {
-                return Err(refusals::FILE_FAILED);
+                return Err(Refusal::FileFailed);
             }
             Ok(Released {
                 length,
@@ -52,7 +52,7 @@ fn release_folder<R: Files>(rt: &R) -> Result<Released, u64> {
                 records,
             })
         }
-        Answer::Short(_) => Err(refusals::OUTPUT_TOO_SHORT),
+        Answer::Short(_) => Err(Refusal::OutputTooShort),
         Answer::Refused(number) => Err(number),
     }
 }

@@ -5,7 +5,7 @@ use Prim.Native.Nat.{ℕ, suc, ◌+◌, ◌-◌, ◌^◌, ◌≤◌, ◌<◌}
 use native.Mathlib.Omega.{arith}
 use lib.ListN.{length, drop}
 use Rattle.fields.specs.Bytes.{Bytes, AllBytes}
-use Rattle.fields.specs.declared.Verdict.TheVariants.{Passes}
+use Rattle.fields.specs.Checks.{Passes}
 use Rattle.lasfile.specs.Records.{size_of, walk_end}
 use Rattle.lasfile.proofs.vlr.RecordLaws.{walk_end_step, walk_grows, front_in_size}
 use Rattle.lasfile.specs.HeaderFields.{header_size, record_count, point_offset}

@@ -7,111 +7,103 @@ pub mod vlr;
 
 ghost use Rattle.std.specs.Prelude.{◌≡◌, take, drop};
 ghost use Rattle.fields.specs.Checks.{first_failing};
+ghost use Rattle.fields.specs.Refusals.{verdict_of};
 ghost use Rattle.lasfile.specs.FileChecks.{file_checks, file_verdict, mend_verdict};
 
 use crate::header::HEADER_BLOCK;
-use fields::{Verdict, refusals, slices};
+use fields::refusal::Refusal;
+use fields::slices;
 use points::layouts;
 
 // Checks 1 to 7, which look at the header and the file's length.
-fn check_header(file: &[u8]) -> Verdict
-    ensures { result ≡ first_failing (take 7 (file_checks file.now)) }
+fn check_header(file: &[u8]) -> Result<(), Refusal>
+    ensures { verdict_of result ≡ first_failing (take 7 (file_checks file.now)) }
 {
     let length = file.len();
     if length < HEADER_BLOCK {
-        return Verdict::Fails(refusals::FILE_TOO_SHORT);
+        return Err(Refusal::FileTooShort);
     }
     if !slices::same_bytes(slices::part_at(file, 0, 4), b"LASF") {
-        return Verdict::Fails(refusals::BAD_SIGNATURE);
+        return Err(Refusal::BadSignature);
     }
     if !slices::same_bytes(slices::part_at(file, header::VERSION, 2), b"\x01\x02") {
-        return Verdict::Fails(refusals::BAD_VERSION);
+        return Err(Refusal::BadVersion);
     }
     let size = header::header_size(file);
     if size < HEADER_BLOCK {
-        return Verdict::Fails(refusals::BAD_HEADER_SIZE);
+        return Err(Refusal::BadHeaderSize);
     }
     if length < size {
-        return Verdict::Fails(refusals::BAD_HEADER_SIZE);
+        return Err(Refusal::BadHeaderSize);
     }
     check_points(file)
 }
 
 // Checks 5 to 7.
-fn check_points(file: &[u8]) -> Verdict
-    ensures { result ≡ first_failing (take 3 (drop 4 (file_checks file.now))) }
+fn check_points(file: &[u8]) -> Result<(), Refusal>
+    ensures { verdict_of result ≡ first_failing (take 3 (drop 4 (file_checks file.now))) }
 {
     let format = header::format(file);
     if layouts::HIGHEST < format {
-        return Verdict::Fails(refusals::BAD_FORMAT);
+        return Err(Refusal::BadFormat);
     }
     let layout = layouts::layout_of(format);
     let size = layout.size;
     if header::record_length(file) < size {
-        return Verdict::Fails(refusals::BAD_RECORD_LENGTH);
+        return Err(Refusal::BadRecordLength);
     }
     let offset = header::point_offset(file);
     if offset < header::header_size(file) {
-        return Verdict::Fails(refusals::BAD_POINT_OFFSET);
+        return Err(Refusal::BadPointOffset);
     }
     if file.len() < offset {
-        return Verdict::Fails(refusals::BAD_POINT_OFFSET);
+        return Err(Refusal::BadPointOffset);
     }
-    Verdict::Passes
+    Ok(())
 }
 
 // Check 10.
-fn check_scaling(file: &[u8]) -> Verdict
-    ensures { result ≡ first_failing (drop 9 (file_checks file.now)) }
+fn check_scaling(file: &[u8]) -> Result<(), Refusal>
+    ensures { verdict_of result ≡ first_failing (drop 9 (file_checks file.now)) }
 {
     if !scaling::Scaling::read(file).is_good() {
-        return Verdict::Fails(refusals::BAD_SCALING);
+        return Err(Refusal::BadScaling);
     }
-    Verdict::Passes
+    Ok(())
 }
 
 // Checks 8 to 10. Counts and lengths are of 4 and 2 bytes, so that no sum and no product wraps.
-fn check_contents(file: &[u8]) -> Verdict
-    ensures { result ≡ first_failing (drop 7 (file_checks file.now)) }
+fn check_contents(file: &[u8]) -> Result<(), Refusal>
+    ensures { verdict_of result ≡ first_failing (drop 7 (file_checks file.now)) }
 {
     let size = header::header_size(file);
     let offset = header::point_offset(file);
     let count = header::record_count(file);
     if !vlr::records_fit(file, count, size, offset) {
-        return Verdict::Fails(refusals::RECORDS_PAST_OFFSET);
+        return Err(Refusal::RecordsPastOffset);
     }
     let length = header::record_length(file);
     let points = header::point_count(file);
     if file.len() < offset + points * length {
-        return Verdict::Fails(refusals::POINTS_PAST_END);
+        return Err(Refusal::PointsPastEnd);
     }
     check_scaling(file)
 }
 
 // The first file check that fails.
-pub fn check_file(file: &[u8]) -> Verdict
-    ensures { result ≡ file_verdict file.now }
+pub fn check_file(file: &[u8]) -> Result<(), Refusal>
+    ensures { verdict_of result ≡ file_verdict file.now }
 {
-    let verdict = check_header(file);
-    match verdict {
-        Verdict::Passes => check_contents(file),
-        Verdict::Fails(_) => verdict,
-    }
+    check_header(file)?;
+    check_contents(file)
 }
 
 // The first that fails of those that a file must pass to be mended: all but 9. Where 9 is the first of all, 10 is left.
-pub fn check_mendable(file: &[u8]) -> Verdict
-    ensures { result ≡ mend_verdict file.now }
+pub fn check_mendable(file: &[u8]) -> Result<(), Refusal>
+    ensures { verdict_of result ≡ mend_verdict file.now }
 {
-    let first = check_file(file);
-    match first {
-        Verdict::Passes => first,
-        Verdict::Fails(number) => {
-            if number == refusals::POINTS_PAST_END {
-                check_scaling(file)
-            } else {
-                first
-            }
-        }
+    match check_file(file) {
+        Err(Refusal::PointsPastEnd) => check_scaling(file),
+        checked => checked,
     }
 }

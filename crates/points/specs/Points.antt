@@ -5,8 +5,8 @@ use Rattle.std.specs.Int.{w8}
 use Rattle.std.proofs.Common.{to_z}
 use Rattle.fields.specs.Bytes.{Bytes, part, num}
 use Rattle.fields.specs.Checks.{Test, Check, ◌below◌, not_so, ◌or◌, first_failing}
-use Rattle.fields.specs.declared.Verdict.{Verdict}
-use Rattle.fields.specs.declared.Verdict.TheVariants.{Passes, Fails}
+use Rattle.fields.specs.Checks.{Verdict}
+use Rattle.fields.specs.Checks.{Passes, Fails}
 use Rattle.points.specs.declared.formats.Place.{Place}
 use Rattle.points.specs.declared.formats.Place.TheVariants.{At, Absent}
 use Rattle.points.specs.Raw.{bits, bit, class_of, synthetic_of, key_point_of, withheld_of, return_of, stored}

@@ -64,10 +64,10 @@ pub fn encode(format: u8, record_length: u16, point: Point, room: &mut [u8]) -> 
     ensures { (result, room.new) ≡ encoded format record_length point room.old }
 {
     if !crate::has_shape(format, record_length, room.len()) {
-        return Verdict::Fails(refusals::BAD_SHAPE);
+        return Verdict::Fails(Refusal::BadShape);
     }
     if is_large(format, point) {
-        return Verdict::Fails(refusals::FIELD_TOO_LARGE);
+        return Verdict::Fails(Refusal::FieldTooLarge);
     }
     put_others(room, format, point);
     common::put_shared(room, format, point);

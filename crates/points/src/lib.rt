@@ -157,7 +157,7 @@ pub fn decode(format: u8, record_length: u16, bytes: &[u8]) -> Decoded
     ensures { result ≡ decoded format record_length bytes.now }
 {
     if !has_shape(format, record_length, bytes.len()) {
-        return Decoded::Refused(refusals::BAD_SHAPE);
+        return Decoded::Refused(Refusal::BadShape);
     }
     let layout = layouts::layout_of(format);
     let time = layout.time;

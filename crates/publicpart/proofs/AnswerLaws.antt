@@ -10,8 +10,8 @@ use lib.Dec.{ltb}
 use borrow.Author.Tests.{lt-ltb, le-ltb, ltb-false}
 use Rattle.fields.specs.Bytes.{Bytes, zeros}
 use Rattle.fields.specs.Checks.{then}
-use Rattle.fields.specs.declared.Verdict.{Verdict}
-use Rattle.fields.specs.declared.Verdict.TheVariants.{Passes, Fails}
+use Rattle.fields.specs.Checks.{Verdict}
+use Rattle.fields.specs.Checks.{Passes, Fails}
 use Rattle.lasfile.specs.FileChecks.{file_verdict}
 use Rattle.sheet.specs.Sheet.{sheet_verdict}
 use Rattle.publicpart.specs.Public.{Public, contents, public_of}

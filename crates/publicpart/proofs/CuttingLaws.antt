@@ -12,8 +12,8 @@ use lib.Seq.{drop-drop}
 use Rattle.fields.specs.Lists.{kept}
 use Rattle.fields.specs.Bytes.{Bytes, part, pieces}
 use Rattle.fields.specs.Checks.{fail_if, then}
-use Rattle.fields.specs.declared.Verdict.{Verdict}
-use Rattle.fields.specs.declared.Verdict.TheVariants.{Passes, Fails}
+use Rattle.fields.specs.Checks.{Verdict}
+use Rattle.fields.specs.Checks.{Passes, Fails}
 use Rattle.fields.proofs.ListLaws.{all_of, kept_map, map-map, map_same}
 use Rattle.lasfile.specs.Records.{front_size, record_of, record_at, places, walk}
 use Rattle.lasfile.specs.FileChecks.{file_verdict}

@@ -4,8 +4,8 @@ use Rattle.std.specs.Prelude.{ℕ, zero, suc, ◌+◌, ◌-◌, Bool, true, fals
 use Rattle.fields.specs.Lists.{kept}
 use Rattle.fields.specs.Bytes.{Bytes, part}
 use Rattle.fields.specs.Checks.{fail_if, then}
-use Rattle.fields.specs.declared.Verdict.{Verdict}
-use Rattle.fields.specs.declared.Verdict.TheVariants.{Passes, Fails}
+use Rattle.fields.specs.Checks.{Verdict}
+use Rattle.fields.specs.Checks.{Passes, Fails}
 use Rattle.lasfile.specs.Records.{Record, front_size, payload_length, record_of, places, record_at}
 use Rattle.lasfile.specs.HeaderFields.{header_size, point_offset, record_count, format, record_length, point_count}
 use Rattle.lasfile.specs.FileChecks.{file_verdict}

@@ -3,8 +3,8 @@
 use Rattle.std.specs.Prelude.{ℕ, ◌+◌, ◌*◌, List, [], ◌∷◌, ltb}
 use Rattle.fields.specs.Bytes.{Bytes, part}
 use Rattle.fields.specs.Checks.{Check, first_failing, then, not_so}
-use Rattle.fields.specs.declared.Verdict.{Verdict}
-use Rattle.fields.specs.declared.Verdict.TheVariants.{Passes, Fails}
+use Rattle.fields.specs.Checks.{Verdict}
+use Rattle.fields.specs.Checks.{Passes, Fails}
 use Rattle.points.specs.Points.{point_of}
 use Rattle.points.specs.declared.Point.{Point}
 use Rattle.lasfile.specs.HeaderFields.{point_offset, point_count, record_length, format}

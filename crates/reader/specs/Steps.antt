@@ -4,8 +4,8 @@ use Rattle.std.specs.Prelude.{ℕ, zero, suc, ◌+◌, List, [], ◌∷◌, leng
 use Rattle.fields.specs.Bytes.{Bytes, part, num}
 use Rattle.fields.specs.Text.{cut}
 use Rattle.fields.specs.Checks.{Check, first_failing, then, ◌below◌, not_so, ◌or◌}
-use Rattle.fields.specs.declared.Verdict.{Verdict}
-use Rattle.fields.specs.declared.Verdict.TheVariants.{Passes, Fails}
+use Rattle.fields.specs.Checks.{Verdict}
+use Rattle.fields.specs.Checks.{Passes, Fails}
 use Rattle.lasfile.specs.Records.{size_of, payload_length}
 use Rattle.lasfile.specs.HeaderFields.{header_size, point_offset, record_count}
 use Rattle.lasfile.specs.FileChecks.{file_verdict}

@@ -60,17 +60,17 @@ impl VlrCursor {
         let index = self.index;
         let position = self.position;
         if header::record_count(file) <= index {
-            return Step::Refused(refusals::NO_RECORD);
+            return Step::Refused(Refusal::NoRecord);
         }
         if position < header::header_size(file) {
-            return Step::Refused(refusals::NO_RECORD);
+            return Step::Refused(Refusal::NoRecord);
         }
         if !fits_in(
             header::point_offset(file),
             position,
             vlr::size_at(file, position),
         ) {
-            return Step::Refused(refusals::NO_RECORD);
+            return Step::Refused(Refusal::NoRecord);
         }
         let places = places_at(file, position);
         let next = places.payload_place + places.payload_length;

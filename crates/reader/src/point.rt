@@ -22,7 +22,7 @@ pub fn point_at(file: &[u8], index: usize) -> PointAt
         return PointAt::Refused(n);
     }
     if header::point_count(file) <= index {
-        return PointAt::Refused(refusals::NO_POINT);
+        return PointAt::Refused(Refusal::NoPoint);
     }
     let length = header::record_length(file);
     let place = header::point_offset(file) + index * length;

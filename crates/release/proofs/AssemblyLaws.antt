@@ -11,7 +11,7 @@ use lib.IntN.{ℤ}
 use lib.Seq.{sets, sets-eq, length-sets, length-take-le, get_or-drop, take_at, drop_at, take-append-add}
 use Rattle.fields.specs.Lists.{All, total}
 use Rattle.fields.specs.Bytes.{Bytes, AllBytes, zeros, join, pieces}
-use Rattle.fields.specs.declared.Verdict.TheVariants.{Passes}
+use Rattle.fields.specs.Checks.{Passes}
 use Rattle.fields.proofs.ByteLaws.{pieces_bytes, length-join_pieces}
 use Rattle.fields.proofs.ListLaws.{kept_same}
 use Rattle.points.proofs.formats.FormatLaws.{shared_first}

@@ -3,7 +3,7 @@
 use Rattle.std.specs.Prelude.{◌≡◌, ℕ, ◌-◌, ◌*◌, ◌≤◌, List, length, drop}
 use Rattle.std.proofs.lemmas.List.Edits.{sets}
 use Rattle.fields.specs.Bytes.{Bytes, zeros}
-use Rattle.fields.specs.declared.Verdict.TheVariants.{Passes}
+use Rattle.fields.specs.Checks.{Passes}
 use Rattle.lasfile.specs.HeaderFields.{format, record_length}
 use Rattle.lasfile.specs.FileChecks.{file_verdict}
 use Rattle.publicpart.specs.Public.{public_of}

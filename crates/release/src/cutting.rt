@@ -1,6 +1,6 @@
 // The cutting list: which parts of a file a release takes, in a lent list.
 ghost use Rattle.std.specs.Prelude.{◌≡◌, ◌≤◌, List, ℤ, length, take};
-ghost use Rattle.fields.specs.declared.Verdict.TheVariants.{Passes};
+ghost use Rattle.fields.specs.Checks.{Passes};
 ghost use Rattle.lasfile.specs.FileChecks.{file_verdict};
 ghost use Rattle.sheet.specs.Boxes.{BoxesOf};
 ghost use Rattle.publicpart.specs.Public.{public_of};
@@ -88,7 +88,7 @@ pub(crate) fn decide_list(file: &[u8], sheet: &[u8], list_length: usize) -> List
     let kept = vlrs::measure(file, sheet);
     let lines = kept.count + points_kept(file, sheet);
     if list_length < lines {
-        return Listed::Refused(refusals::LIST_TOO_SHORT);
+        return Listed::Refused(Refusal::ListTooShort);
     }
     Listed::Lines(lines)
 }

@@ -7,8 +7,8 @@ use Rattle.fields.specs.Bytes.{Bytes, same}
 use Rattle.points.specs.Raw.{class_in, withheld_in, class_byte, class_of, withheld_of, stored}
 use Rattle.fields.specs.Text.{cut}
 use Rattle.sheet.specs.Sheet.{kind, lowest, highest, user_id, record_id, low, high, on_every_axis, lines, sheet_verdict}
-use Rattle.fields.specs.declared.Verdict.{Verdict}
-use Rattle.fields.specs.declared.Verdict.TheVariants.{Passes, Fails}
+use Rattle.fields.specs.Checks.{Verdict}
+use Rattle.fields.specs.Checks.{Passes, Fails}
 use Rattle.sheet.specs.declared.answers.Kept.{Kept}
 use Rattle.sheet.specs.declared.answers.Kept.TheVariants.{Yes, No, Refused}
 use Rattle.sheet.specs.declared.answers.Tested.{Tested}

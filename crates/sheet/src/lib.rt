@@ -101,15 +101,15 @@ fn check_body(rest: &[u8]) -> fields::Verdict
 {
     let length = line_length(rest);
     if length < 1 {
-        return fields::Verdict::Fails(refusals::BAD_KIND);
+        return fields::Verdict::Fails(Refusal::BadKind);
     }
     if rest.len() < length {
-        return fields::Verdict::Fails(refusals::LINE_CUT);
+        return fields::Verdict::Fails(Refusal::LineCut);
     }
     if in_order(rest) {
         fields::Verdict::Passes
     } else {
-        fields::Verdict::Fails(refusals::LOW_ABOVE_HIGH)
+        fields::Verdict::Fails(Refusal::LowAboveHigh)
     }
 }
 
@@ -118,12 +118,12 @@ fn check_line(rest: &[u8]) -> fields::Verdict
     ensures { result ≡ first_failing (line_checks rest.now) }
 {
     if rest.len() < 3 {
-        return fields::Verdict::Fails(refusals::LINE_CUT);
+        return fields::Verdict::Fails(Refusal::LineCut);
     }
     if marked(rest) {
         check_body(rest)
     } else {
-        fields::Verdict::Fails(refusals::BAD_MARK)
+        fields::Verdict::Fails(Refusal::BadMark)
     }
 }
 
@@ -135,7 +135,7 @@ pub fn check_sheet(sheet: &[u8]) -> fields::Verdict
     let mut left = MOST_LINES;
     while 0 < rest.len() {
         if left == 0 {
-            return fields::Verdict::Fails(refusals::TOO_MANY_LINES);
+            return fields::Verdict::Fails(Refusal::TooManyLines);
         }
         let verdict = check_line(rest);
         if let fields::Verdict::Fails(_) = verdict {

@@ -9,7 +9,7 @@ use lib.ListN.{length}
 use lib.IntN.{pos, negsuc}
 use lib.Signed.{◌≤ℤ◌}
 use Rattle.fields.specs.Bytes.{Bytes}
-use Rattle.fields.specs.declared.Verdict.TheVariants.{Passes}
+use Rattle.fields.specs.Checks.{Passes}
 use Rattle.lasfile.specs.HeaderFields.{point_count}
 use Rattle.sheet.specs.Sheet.{kind, low, high, lines, sheet_verdict}
 use Rattle.sheet.specs.Keeping.{contains_point, keeps_class, keeps_place, keeps_point, has_box}

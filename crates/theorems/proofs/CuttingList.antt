@@ -12,7 +12,7 @@ use Rattle.fields.specs.Lists.{kept, cons_if}
 use Rattle.fields.specs.Bytes.{Bytes, join, part}
 use Rattle.lasfile.specs.Records.{size_of, places, record_at, walk_end}
 use Rattle.lasfile.specs.HeaderFields.{header_size, point_offset, record_count, format, record_length, point_count}
-use Rattle.fields.specs.declared.Verdict.TheVariants.{Passes}
+use Rattle.fields.specs.Checks.{Passes}
 use Rattle.lasfile.specs.FileChecks.{file_verdict}
 use Rattle.lasfile.proofs.Passed.{passed, records_end_lem}
 use Rattle.sheet.specs.Keeping.{keeps_point}

@@ -13,8 +13,8 @@ use lib.Dec.{eqb, ltb, leb}
 use Rattle.fields.specs.Lists.{kept, cons_if}
 use Rattle.fields.specs.Bytes.{Bytes}
 use Rattle.fields.specs.Checks.{Check, ◌below◌, fails, fail_if, first_failing, then, number_of}
-use Rattle.fields.specs.declared.Verdict.{Verdict}
-use Rattle.fields.specs.declared.Verdict.TheVariants.{Passes, Fails}
+use Rattle.fields.specs.Checks.{Verdict}
+use Rattle.fields.specs.Checks.{Passes, Fails}
 use Rattle.fields.proofs.CheckLaws.{first_fails, Without, never_given}
 use Rattle.points.specs.Points as points
 use Rattle.points.specs.Encoding as encoding

@@ -5,7 +5,7 @@ use native.Mathlib.Omega.{arith}
 use lib.Dec.{lit≤, lit<}
 use mathlib.Core.List.{[], ◌∷◌}
 use Rattle.fields.specs.Bytes.{Bytes, AllBytes}
-use Rattle.fields.specs.declared.Verdict.TheVariants.{Passes, Fails}
+use Rattle.fields.specs.Checks.{Passes, Fails}
 use Rattle.geokeys.specs.GeoKeys.{or_later, first, is_projection, projection_place, payload_at, key_count, entries, key_of, location_of, count_of, offset_of, entry_of, answer_if, either, from_entry, payload_in, directory_of, directory_verdict, entries_in, searched, search_verdict, lookup}
 use Rattle.geokeys.specs.Halving.{middle, before, after, one_more, go_on, halving, halve, key_read, read_if, lookup_by_halving}
 use Rattle.capi.specs.RecordAnswers.{geokey_numbers, read_numbers}

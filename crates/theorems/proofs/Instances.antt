@@ -16,7 +16,7 @@ use lib.Ieee.Fits.{and_l, and_r}
 use Rattle.fields.specs.Lists.{All, kept, total}
 use Rattle.fields.specs.Bytes.{Bytes, AllBytes, part, num, zeros}
 use Rattle.fields.specs.Checks.{number_of}
-use Rattle.fields.specs.declared.Verdict.TheVariants.{Passes, Fails}
+use Rattle.fields.specs.Checks.{Passes, Fails}
 use Rattle.points.specs.Encoding.{InRange, large, encode_checks, stored_if, encoded}
 use Rattle.points.specs.declared.Decoded.TheVariants.{Fields}
 use Rattle.points.specs.Formats.{format_size}

@@ -7,7 +7,7 @@ use mathlib.Core.List.{◌++◌, append-nil}
 use lib.ListN.{length, take}
 use lib.Seq.{take_at}
 use Rattle.fields.specs.Bytes.{Bytes, zeros}
-use Rattle.fields.specs.declared.Verdict.TheVariants.{Passes}
+use Rattle.fields.specs.Checks.{Passes}
 use Rattle.lasfile.specs.FileChecks.{file_verdict}
 use Rattle.lasfile.proofs.Passed.{passed, passes}
 use Rattle.sheet.specs.Sheet.{sheet_verdict}

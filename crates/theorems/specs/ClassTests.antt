@@ -2,7 +2,7 @@
 -- the question whether it is kept says.
 -- Assumes nothing.
 use Rattle.std.specs.Prelude.{◌≡◌, ◌↔◌, ℕ, ◌+◌, ◌≤◌, Bool, true, false, List, ◌∷◌, ◌++◌, length}
-use Rattle.fields.specs.declared.Verdict.TheVariants.{Passes, Fails}
+use Rattle.fields.specs.Checks.{Passes, Fails}
 use Rattle.fields.specs.Lists.{All}
 use Rattle.fields.specs.Bytes.{Bytes}
 use Rattle.sheet.specs.Sheet.{kind, lines, sheet_verdict}

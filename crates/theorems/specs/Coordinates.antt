@@ -6,7 +6,7 @@ use Rattle.std.specs.Float.{nan, inf, fin, binary64}
 use Rattle.std.specs.Float.Ieee.{up, down, le, to_bits, of_int}
 use Rattle.std.specs.Float.Ieee.Scale.{finite}
 use Rattle.fields.specs.Bytes.{Bytes, AllBytes, part, num}
-use Rattle.fields.specs.declared.Verdict.TheVariants.{Passes}
+use Rattle.fields.specs.Checks.{Passes}
 use Rattle.scaling.specs.Scaling.{coordinate_of, scaling_of, good_scaling}
 use Rattle.scaling.specs.declared.Scaling.{Scaling}
 use Rattle.lasfile.specs.FileChecks.{file_verdict}

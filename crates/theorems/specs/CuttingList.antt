@@ -2,7 +2,7 @@
 -- Assumes nothing.
 use Rattle.std.specs.Prelude.{◌≡◌, ℕ, ◌+◌, ◌≤◌, ◌<◌, List, map, length, get_or}
 use Rattle.fields.specs.Bytes.{Bytes, join}
-use Rattle.fields.specs.declared.Verdict.TheVariants.{Passes}
+use Rattle.fields.specs.Checks.{Passes}
 use Rattle.lasfile.specs.FileChecks.{file_verdict}
 use Rattle.publicpart.specs.Public.{public_of}
 use Rattle.publicpart.specs.declared.Span.{Span}

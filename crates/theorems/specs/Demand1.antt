@@ -5,7 +5,7 @@
 use Rattle.std.specs.Prelude.{◌≡◌, ◌↔◌, ℕ, suc, false, List, ◌++◌, replicate}
 use Rattle.fields.specs.Bytes.{Bytes}
 use Rattle.fields.specs.Checks.{Check, first_failing, AllClear}
-use Rattle.fields.specs.declared.Verdict.TheVariants.{Passes, Fails}
+use Rattle.fields.specs.Checks.{Passes, Fails}
 use Rattle.points.specs.declared.Point.{Point}
 use Rattle.points.specs.Points.{decode_checks}
 use Rattle.points.specs.Encoding.{encode_checks, encoded}

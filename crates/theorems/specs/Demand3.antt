@@ -2,7 +2,7 @@
 -- Assumes nothing.
 use Rattle.std.specs.Prelude.{◌≡◌, ◌↔◌, ℕ, ◌-◌, ◌≤◌, ◌<◌, ◌++◌, length, take}
 use Rattle.fields.specs.Bytes.{Bytes, zeros}
-use Rattle.fields.specs.declared.Verdict.TheVariants.{Passes}
+use Rattle.fields.specs.Checks.{Passes}
 use Rattle.sheet.specs.Sheet.{sheet_verdict}
 use Rattle.publicpart.specs.Public.{public_of}
 use Rattle.publicpart.specs.Release.{Outcome, release}

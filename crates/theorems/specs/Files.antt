@@ -4,7 +4,7 @@
 use Rattle.std.specs.Prelude.{◌≡◌, ◌↔◌, ℕ, ◌+◌, List, ◌++◌, length}
 use Rattle.fields.specs.Lists.{All, total}
 use Rattle.fields.specs.Bytes.{Bytes}
-use Rattle.fields.specs.declared.Verdict.TheVariants.{Passes}
+use Rattle.fields.specs.Checks.{Passes}
 use Rattle.lasfile.specs.FileChecks.{file_verdict}
 use Rattle.lasfile.specs.Passed.{Passed}
 use Rattle.lasfile.specs.Records.{SoundRecord, Record, walk, walk_end, records_bytes, written_length}

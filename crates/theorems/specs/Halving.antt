@@ -5,7 +5,7 @@ use Rattle.std.specs.Prelude.{◌≡◌, ℕ, ◌+◌, ◌/◌, ◌≤◌, ◌<�
 use Rattle.std.proofs.Math.Option.{none, some}
 use Rattle.fields.specs.Bytes.{Bytes, AllBytes}
 use Rattle.fields.specs.Lists.{All}
-use Rattle.fields.specs.declared.Verdict.TheVariants.{Passes, Fails}
+use Rattle.fields.specs.Checks.{Passes, Fails}
 use Rattle.geokeys.specs.GeoKeys.{key_of, entry_of, searched, search_verdict, lookup}
 use Rattle.geokeys.specs.Halving.{halve, lookup_by_halving}
 use Rattle.geokeys.specs.declared.GeoKey.TheVariants.{Refused}

@@ -9,7 +9,7 @@ use Rattle.fields.specs.Lists.{All}
 use Rattle.fields.specs.Bytes.{Bytes, part, num, zeros, join}
 use Rattle.fields.specs.Checks.{AllClear}
 use Rattle.fields.specs.Text.{cut}
-use Rattle.fields.specs.declared.Verdict.TheVariants.{Passes, Fails}
+use Rattle.fields.specs.Checks.{Passes, Fails}
 use Rattle.points.specs.declared.Point.{Point}
 use Rattle.points.specs.declared.Decoded.TheVariants.{Fields}
 use Rattle.points.specs.Raw.{class_byte, class_of, withheld_of}

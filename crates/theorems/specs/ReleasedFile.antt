@@ -4,7 +4,7 @@
 use Rattle.std.specs.Prelude.{◌≡◌, ℕ, ◌+◌, ◌-◌, ◌*◌, ◌≤◌, List, length, drop}
 use Rattle.fields.specs.Lists.{kept, total}
 use Rattle.fields.specs.Bytes.{Bytes, zeros}
-use Rattle.fields.specs.declared.Verdict.TheVariants.{Passes}
+use Rattle.fields.specs.Checks.{Passes}
 use Rattle.lasfile.specs.Records.{Record, written_length}
 use Rattle.lasfile.specs.HeaderFields.{header_block, format, record_length}
 use Rattle.lasfile.specs.FileChecks.{file_verdict}

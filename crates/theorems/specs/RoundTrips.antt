@@ -3,7 +3,7 @@
 -- Assumes nothing.
 use Rattle.std.specs.Prelude.{◌≡◌, ℕ, length, drop}
 use Rattle.fields.specs.Bytes.{Bytes, AllBytes}
-use Rattle.fields.specs.declared.Verdict.TheVariants.{Passes}
+use Rattle.fields.specs.Checks.{Passes}
 use Rattle.points.specs.Formats.{format_size}
 use Rattle.points.specs.declared.Point.{Point}
 use Rattle.points.specs.declared.Decoded.TheVariants.{Fields}

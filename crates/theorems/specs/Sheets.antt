@@ -3,7 +3,7 @@
 -- Assumes nothing.
 use Rattle.std.specs.Prelude.{◌≡◌, ◌↔◌, ℕ, ◌≤◌, true, false, length, replicate}
 use mathlib.Core.List.{List, [], ◌∷◌, ◌++◌, Memᴰ}
-use Rattle.fields.specs.declared.Verdict.TheVariants.{Passes, Fails}
+use Rattle.fields.specs.Checks.{Passes, Fails}
 use Rattle.fields.specs.Bytes.{Bytes, join}
 use Rattle.sheet.specs.Sheet.{kind, lowest, highest, user_id, record_id, lines, sheet_verdict}
 use Rattle.sheet.specs.Keeping.{keeps_class, keeps_place, keeps_point, keeps_record}

@@ -2,7 +2,7 @@
 -- Assumes nothing.
 use Rattle.std.specs.Prelude.{◌≡◌, ℕ, suc, ◌+◌, map}
 use Rattle.fields.specs.Bytes.{Bytes, part}
-use Rattle.fields.specs.declared.Verdict.TheVariants.{Passes}
+use Rattle.fields.specs.Checks.{Passes}
 use Rattle.lasfile.specs.Records.{record_at, places}
 use Rattle.lasfile.specs.HeaderFields.{header_size, record_count}
 use Rattle.lasfile.specs.FileChecks.{file_verdict}

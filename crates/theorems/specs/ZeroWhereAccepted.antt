@@ -2,7 +2,7 @@
 -- Assumes nothing.
 use Rattle.std.specs.Prelude.{◌≡◌, ℕ, Bool, true, false, List, eqb}
 use Rattle.fields.specs.Bytes.{Bytes}
-use Rattle.fields.specs.declared.Verdict.{Verdict}
+use Rattle.fields.specs.Checks.{Verdict}
 use Rattle.fields.specs.declared.Verdict.TheVariants as verdict
 use Rattle.points.specs.Points.{decoded}
 use Rattle.points.specs.Encoding.{encoded}

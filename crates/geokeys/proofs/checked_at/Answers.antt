@@ -3,7 +3,7 @@ use mathlib.Core.Path.{◌≡◌, sym, ap, ◌∙◌}
 use Prim.Native.Nat.{ℕ}
 use Rattle.fields.specs.Bytes.{Bytes}
 use Rattle.fields.specs.Checks.{first_failing}
-use Rattle.fields.specs.declared.Verdict.{Verdict}
+use Rattle.fields.specs.Checks.{Verdict}
 use Rattle.geokeys.specs.GeoKeys.{payload_at, directory_checks}
 use Rattle.geokeys.specs.Places.{place_if}
 use Rattle.geokeys.proofs.checked_at.Goals as goal

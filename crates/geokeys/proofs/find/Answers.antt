@@ -5,7 +5,7 @@ use Prim.Native.Nat.{ℕ}
 use mathlib.Core.Option.{some}
 use native.Mathlib.Omega.{arith}
 use Rattle.fields.specs.Bytes.{Bytes}
-use Rattle.fields.specs.declared.Verdict.TheVariants.{Passes}
+use Rattle.fields.specs.Checks.{Passes}
 use Rattle.geokeys.specs.GeoKeys.{payload_at, entries, entry_of, from_entry, directory_of, search_verdict, lookup}
 use Rattle.geokeys.specs.declared.GeoKey.{GeoKey}
 use Rattle.geokeys.proofs.SearchLaws.{answer_passes, answer_fails, searched_at, refused_with, passes_first, searched_is}

@@ -1,7 +1,7 @@
 -- `geokeys::find_directory` meets its contract. Assumes nothing.
 use mathlib.Core.Path.{◌≡◌, sym, ◌∙◌}
 use native.Mathlib.Omega.{arith}
-use Rattle.fields.specs.declared.Verdict.TheVariants.{Passes}
+use Rattle.fields.specs.Checks.{Passes}
 use Rattle.lasfile.specs.FileChecks.{file_verdict}
 use Rattle.geokeys.proofs.SearchLaws.{placed, nowhere, low_place, file_refused, no_directory, directory_at}
 use Rattle.geokeys.proofs.find_directory.Goals.{In_default}

@@ -6,7 +6,7 @@ use native.Mathlib.Omega.{arith}
 use mathlib.Core.List.{◌∷◌}
 use lib.ListN.{drop}
 use Rattle.fields.specs.Bytes.{Bytes, AllBytes}
-use Rattle.fields.specs.declared.Verdict.TheVariants.{Passes}
+use Rattle.fields.specs.Checks.{Passes}
 use Rattle.lasfile.specs.Records.{places, size_of}
 use Rattle.lasfile.proofs.vlr.RecordLaws.{places_none, places_step}
 use Rattle.lasfile.specs.HeaderFields.{header_size, record_count}

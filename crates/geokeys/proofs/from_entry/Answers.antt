@@ -8,7 +8,7 @@ use borrow.Author.Tests.{eq-eqb, ne_eqb}
 use lib.Dec.{T, eqb}
 use Rattle.fields.specs.Bytes.{Bytes}
 use Rattle.fields.specs.Checks.{first_failing}
-use Rattle.fields.specs.declared.Verdict.TheVariants.{Passes}
+use Rattle.fields.specs.Checks.{Passes}
 use Rattle.fields.proofs.CheckLaws.{first_fails, first_clear, all_clear}
 use Rattle.geokeys.specs.GeoKeys.{projection_place, payload_at, location_of, count_of, offset_of, entry_checks, either, double_in, text_in, in_parameters, from_entry}
 use Rattle.geokeys.specs.declared.GeoKey.{GeoKey}

@@ -1,6 +1,6 @@
 -- `lasfile::check_mendable` meets its contract. Assumes nothing.
 use mathlib.Core.Path.{sym, ap, ◌∙◌}
-use Rattle.fields.specs.declared.Verdict.TheVariants.{Fails}
+use Rattle.fields.specs.Checks.{Fails}
 use Rattle.lasfile.proofs.Passed.{passing_mends, refused_with_9, refused_alike}
 use Rattle.lasfile.proofs.check_mendable.Goals as goal
 

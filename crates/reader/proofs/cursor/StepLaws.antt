@@ -6,7 +6,7 @@ use lib.ListN.{drop}
 use lib.Dec.{ltb}
 use Rattle.fields.specs.Bytes.{Bytes}
 use Rattle.fields.specs.Checks.{first_failing, Test, ◌below◌, not_so, ◌or◌, Clear}
-use Rattle.fields.specs.declared.Verdict.TheVariants.{Passes, Fails}
+use Rattle.fields.specs.Checks.{Passes, Fails}
 use Rattle.fields.proofs.CheckLaws.{Broken, first_fails, all_clear, then_passes, then_fails}
 use Rattle.lasfile.specs.Records.{size_of}
 use Rattle.lasfile.specs.HeaderFields.{header_size, point_offset, record_count}

@@ -13,8 +13,8 @@ use lib.Dec.{ltb}
 use borrow.Author.Tests.{ltb-true, ltb-false}
 use lib.Seq.{sets, take_all, take_at}
 use Rattle.fields.specs.Bytes.{Bytes, AllBytes, zeros, join}
-use Rattle.fields.specs.declared.Verdict.{Verdict}
-use Rattle.fields.specs.declared.Verdict.TheVariants.{Passes, Fails}
+use Rattle.fields.specs.Checks.{Verdict}
+use Rattle.fields.specs.Checks.{Passes, Fails}
 use Rattle.lasfile.specs.Records.{records_bytes}
 use Rattle.lasfile.specs.HeaderFields.{header_block}
 use Rattle.lasfile.specs.FileChecks.{file_verdict}

@@ -5,7 +5,7 @@ use Prim.Native.Nat.{ℕ}
 use mathlib.Core.List.{List}
 use lib.ListN.{length, replicate, length-replicate}
 use Rattle.fields.specs.Bytes.{Bytes}
-use Rattle.fields.specs.declared.Verdict.TheVariants.{Passes}
+use Rattle.fields.specs.Checks.{Passes}
 use Rattle.publicpart.specs.declared.Span.{Span}
 use Rattle.publicpart.specs.declared.Answer.{Answer}
 use Rattle.publicpart.specs.declared.Answer.TheVariants as answer

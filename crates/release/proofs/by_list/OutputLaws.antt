@@ -8,7 +8,7 @@ use mathlib.Core.List.{[], ◌++◌, append_assoc, append-nil}
 use lib.ListN.{length, take, drop, length-append, length-replicate, replicate-append-replicate, drop_of_length-le}
 use lib.Seq.{sets, sets-eq, length-sets, take_at, drop_at}
 use Rattle.fields.specs.Bytes.{Bytes, AllBytes, zeros, join}
-use Rattle.fields.specs.declared.Verdict.TheVariants.{Passes}
+use Rattle.fields.specs.Checks.{Passes}
 use Rattle.fields.proofs.ByteLaws.{pieces_back}
 use Rattle.fields.proofs.StoreLaws.{sets_room}
 use Rattle.points.specs.Raw.{points_of}

@@ -4,7 +4,7 @@ use mathlib.Core.Path.{◌≡◌, refl, ap, ◌∙◌}
 use Prim.Native.Nat.{ℕ}
 use mathlib.Core.List.{List, [], ◌∷◌}
 use Rattle.fields.specs.Bytes.{Bytes, AllBytes}
-use Rattle.fields.specs.declared.Verdict.TheVariants.{Passes}
+use Rattle.fields.specs.Checks.{Passes}
 use Rattle.theorems.specs.Coordinates.{Axis, axis_x, axis_y, axis_z, axis_scale, axis_offset, scale_place, offset_place, CarriedBits, OwnBits}
 use Rattle.theorems.proofs.scaling.CoordinateTheorems.{carried}
 use Rattle.lasfile.specs.FileChecks.{file_verdict}

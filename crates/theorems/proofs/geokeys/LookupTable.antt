@@ -9,8 +9,8 @@ use mathlib.Core.Option.{Option, none, some}
 use lib.Dec.{eqb}
 use Rattle.fields.specs.Bytes.{Bytes}
 use Rattle.fields.specs.Checks.{Check, fails, fail_if, first_failing, then, number_of, not_so}
-use Rattle.fields.specs.declared.Verdict.{Verdict}
-use Rattle.fields.specs.declared.Verdict.TheVariants.{Passes, Fails}
+use Rattle.fields.specs.Checks.{Verdict}
+use Rattle.fields.specs.Checks.{Passes, Fails}
 use Rattle.fields.proofs.CheckLaws.{Numbers, both_numbers, given_among, Without}
 use Rattle.lasfile.specs.FileChecks.{file_checks, file_verdict}
 use Rattle.geokeys.specs.GeoKeys.{directory_checks, entry_checks, double_checks, text_checks, answer_if, either, double_in, text_in, in_parameters, from_entry, location_of, payload_at, projection_place, directory_of, directory_verdict, search_verdict}

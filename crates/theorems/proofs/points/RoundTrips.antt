@@ -10,8 +10,8 @@ use lib.Seq.{sets, sets-eq, length-sets, length-take-le, drop_at}
 use lib.Dec.{eqb→eq}
 use Rattle.fields.specs.Bytes.{Bytes, AllBytes, join}
 use Rattle.fields.specs.Checks.{first_failing, Clear}
-use Rattle.fields.specs.declared.Verdict.{Verdict}
-use Rattle.fields.specs.declared.Verdict.TheVariants.{Passes, Fails}
+use Rattle.fields.specs.Checks.{Verdict}
+use Rattle.fields.specs.Checks.{Passes, Fails}
 use Rattle.fields.proofs.CheckLaws.{none_fails, unclear}
 use Rattle.points.specs.Formats.{format_size, time_place, colour_place}
 use Rattle.points.specs.declared.Point.{Point}

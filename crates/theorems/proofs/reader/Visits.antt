@@ -11,7 +11,7 @@ use lib.Dec.{T}
 use Rattle.fields.specs.Bytes.{Bytes, part}
 use Rattle.fields.specs.Text.{cut}
 use Rattle.fields.specs.Checks.{Clear}
-use Rattle.fields.specs.declared.Verdict.TheVariants.{Passes}
+use Rattle.fields.specs.Checks.{Passes}
 use Rattle.fields.proofs.ByteLaws.{part-part, length-part-le}
 use Rattle.fields.proofs.TextLaws.{cut_front, length_cut}
 use Rattle.lasfile.specs.Records.{size_of, places, walk_end}

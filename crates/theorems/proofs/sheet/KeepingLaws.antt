@@ -8,7 +8,7 @@ use borrow.Author.Tests.{leb-true, eqb-true, le-leb, eq-eqb}
 use mathlib.Core.Bool.{Bool, true, false, ◌&&◌, ◌||◌, or-true, and-eq-true_iff}
 use mathlib.Core.List.{List, [], ◌∷◌, Memᴰ}
 use lib.Dec.{T, leb, eqb}
-use Rattle.fields.specs.declared.Verdict.TheVariants.{Passes}
+use Rattle.fields.specs.Checks.{Passes}
 use Rattle.fields.specs.Lists.{any_of}
 use Rattle.fields.specs.Bytes.{Bytes, same}
 use Rattle.fields.proofs.ByteLaws.{same→eq, same_refl}

@@ -7,7 +7,7 @@ use mathlib.Core.Bool.{Bool, true, false, not, ◌||◌}
 use mathlib.Core.List.{List, Memᴰ}
 use Rattle.fields.specs.Lists.{any_of}
 use Rattle.fields.specs.Bytes.{Bytes}
-use Rattle.fields.specs.declared.Verdict.TheVariants.{Passes}
+use Rattle.fields.specs.Checks.{Passes}
 use Rattle.fields.proofs.ListLaws.{kept_same, all_of}
 use Rattle.lasfile.specs.HeaderFields.{format}
 use Rattle.lasfile.specs.Records.{Record}

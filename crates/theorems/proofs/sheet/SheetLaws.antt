@@ -5,7 +5,7 @@ use Prim.Native.Nat.{ℕ, zero, suc, ◌-◌}
 use native.Mathlib.Omega.{arith}
 use mathlib.Core.List.{[], ◌∷◌, ◌++◌}
 use lib.ListN.{replicate}
-use Rattle.fields.specs.declared.Verdict.TheVariants.{Passes, Fails}
+use Rattle.fields.specs.Checks.{Passes, Fails}
 use Rattle.fields.specs.Bytes.{Bytes, part, same, join}
 use Rattle.fields.specs.Checks.{first_failing, fail_if, fails, then}
 use Rattle.fields.proofs.CheckLaws.{then_passed}

@@ -8,8 +8,8 @@ use mathlib.Core.Bool.{Bool, true, false}
 use mathlib.Core.List.{List, [], ◌∷◌, ◌++◌}
 use lib.ListN.{length}
 use lib.Dec.{eqb}
-use Rattle.fields.specs.declared.Verdict.{Verdict}
-use Rattle.fields.specs.declared.Verdict.TheVariants.{Passes, Fails}
+use Rattle.fields.specs.Checks.{Verdict}
+use Rattle.fields.specs.Checks.{Passes, Fails}
 use Rattle.fields.specs.Lists.{All, any_of}
 use Rattle.fields.specs.Bytes.{Bytes}
 use Rattle.sheet.specs.Sheet.{kind, lines, sheet_verdict}

@@ -2,7 +2,7 @@
 use mathlib.Core.Path.{◌≡◌, sym, ap, ◌∙◌}
 use native.Mathlib.Omega.{arith}
 use Rattle.fields.specs.Bytes.{AllBytes}
-use Rattle.fields.specs.declared.Verdict.TheVariants.{Passes}
+use Rattle.fields.specs.Checks.{Passes}
 use Rattle.lasfile.specs.FileChecks.{mend_verdict}
 use Rattle.lasfile.proofs.Passed.{mendable}
 use Rattle.tally.specs.Tally.{tally_bounds}

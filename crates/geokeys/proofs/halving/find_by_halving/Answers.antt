@@ -5,7 +5,7 @@ use Prim.Native.Nat.{ℕ, ◌≤◌}
 use mathlib.Core.Option.{some}
 use native.Mathlib.Omega.{arith}
 use Rattle.fields.specs.Bytes.{Bytes, AllBytes}
-use Rattle.fields.specs.declared.Verdict.TheVariants.{Passes}
+use Rattle.fields.specs.Checks.{Passes}
 use Rattle.geokeys.specs.GeoKeys.{payload_at, entries, directory_of, search_verdict}
 use Rattle.geokeys.specs.Halving.{halve, key_read, lookup_by_halving}
 use Rattle.geokeys.specs.declared.halving.KeyRead.{KeyRead}

@@ -4,7 +4,7 @@ use native.Mathlib.Omega.{arith}
 use lib.ListN.{length}
 use lib.Seq.{sets}
 use Rattle.fields.specs.Bytes.{Bytes}
-use Rattle.fields.specs.declared.Verdict.TheVariants.{Passes}
+use Rattle.fields.specs.Checks.{Passes}
 use Rattle.points.specs.Encoding.{point_bytes}
 use Rattle.points.proofs.AnswerLaws.{shape_found}
 use Rattle.points.proofs.encoding.AnswerLaws.{refused_12, refused_13, stored_by}

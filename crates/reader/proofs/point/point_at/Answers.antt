@@ -8,7 +8,7 @@ use lib.ListN.{length}
 use lib.Dec.{T}
 use Rattle.fields.specs.Bytes.{Bytes, part}
 use Rattle.fields.specs.Checks.{first_failing}
-use Rattle.fields.specs.declared.Verdict.TheVariants.{Passes, Fails}
+use Rattle.fields.specs.Checks.{Passes, Fails}
 use Rattle.fields.proofs.ByteLaws.{length_part}
 use Rattle.fields.proofs.CheckLaws.{first_fails, all_clear, then_passes, then_fails}
 use Rattle.points.specs.declared.Decoded.TheVariants.{Fields}

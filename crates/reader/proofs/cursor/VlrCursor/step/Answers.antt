@@ -7,7 +7,7 @@ use borrow.Author.Tests.{le-ltb, lt-ltb, leb-true, leb-false}
 use lib.Dec.{T, ltb, leb}
 use lib.ListN.{drop}
 use Rattle.fields.specs.Bytes.{Bytes}
-use Rattle.fields.specs.declared.Verdict.TheVariants.{Passes}
+use Rattle.fields.specs.Checks.{Passes}
 use Rattle.lasfile.specs.Records.{size_of}
 use Rattle.lasfile.proofs.vlr.FieldLaws.{size_of_lem}
 use Rattle.lasfile.proofs.vlr.RecordLaws.{front_in_size}
