@@ -4,15 +4,14 @@
 use Rattle.std.specs.Prelude.{ℕ, Bool, List, map}
 use mir.Val.{bool_byte}
 use Rattle.fields.specs.Checks.{number_of}
-use Rattle.publicpart.specs.declared.Answer.{Answer}
-use Rattle.publicpart.specs.declared.Answer.TheVariants as answer
-use Rattle.publicpart.specs.declared.Listed.{Listed}
-use Rattle.publicpart.specs.declared.Listed.TheVariants as listed
-use Rattle.sheet.specs.declared.answers.Kept.{Kept}
-use Rattle.sheet.specs.declared.answers.Kept.TheVariants.{Yes, No, Refused}
-use Rattle.sheet.specs.declared.answers.Tested.{Tested}
-use Rattle.sheet.specs.declared.answers.Tested.TheVariants as tested
-use Rattle.editor.specs.declared.mend.Mended.{Mended}
+use Rattle.publicpart.specs.Release.{Answer}
+use Rattle.publicpart.specs.Release as answer
+use Rattle.publicpart.specs.Cutting.{Listed}
+use Rattle.publicpart.specs.Cutting as listed
+use Rattle.sheet.specs.Keeping.{Kept, Yes, No, Refused}
+use Rattle.sheet.specs.Tests.{Tested}
+use Rattle.sheet.specs.Tests as tested
+use Rattle.editor.specs.Mend.{Mended}
 use Rattle.capi.specs.declared.answers.las_released.{las_released}
 use Rattle.capi.specs.declared.answers.las_listed.{las_listed}
 use Rattle.capi.specs.declared.answers.las_kept.{las_kept}

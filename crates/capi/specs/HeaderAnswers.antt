@@ -8,8 +8,7 @@ use Rattle.scaling.specs.declared.Scaling.{Scaling}
 use Rattle.publicpart.specs.Bounds.{bound_numbers}
 use Rattle.reader.specs.declared.header.ByReturn.{ByReturn}
 use Rattle.reader.specs.declared.header.Header.{Header}
-use Rattle.reader.specs.declared.header.HeaderRead.{HeaderRead}
-use Rattle.reader.specs.declared.header.HeaderRead.TheVariants.{Fields, Refused}
+use Rattle.reader.specs.Header.{HeaderRead, Fields, Refused}
 use Rattle.capi.specs.declared.header.las_header.{las_header}
 
 unfoldable pub by_return_numbers : ByReturn → List ℕ

@@ -3,10 +3,9 @@
 use Rattle.std.specs.Prelude.{ℕ, Bool, not, pos, eqb}
 use mir.Val.{bool_byte}
 use Rattle.points.specs.declared.Point.{Point}
-use Rattle.points.specs.declared.Decoded.{Decoded}
-use Rattle.points.specs.declared.Decoded.TheVariants as decoded
-use Rattle.reader.specs.declared.point.PointAt.{PointAt}
-use Rattle.reader.specs.declared.point.PointAt.TheVariants.{At, Refused}
+use Rattle.points.specs.Points.{Decoded}
+use Rattle.points.specs.Points as decoded
+use Rattle.reader.specs.OnePoint.{PointAt, At, Refused}
 use Rattle.capi.specs.declared.point.las_point.{las_point}
 
 -- a point whose record lies at a place; its flags are 0 or 1

@@ -4,11 +4,10 @@
 use Rattle.std.specs.Prelude.{ℕ}
 use Rattle.reader.specs.declared.cursor.RecordPlaces.{RecordPlaces}
 use Rattle.reader.specs.declared.cursor.VlrCursor.{VlrCursor}
-use Rattle.reader.specs.declared.cursor.Step.{Step}
-use Rattle.reader.specs.declared.cursor.Step.TheVariants.{Record, Refused}
-use Rattle.geokeys.specs.declared.GeoKey.{GeoKey}
-use Rattle.geokeys.specs.declared.GeoKey.TheVariants as found
-use Rattle.geokeys.specs.declared.halving.KeyRead.{KeyRead}
+use Rattle.reader.specs.Steps.{Step, Record, Refused}
+use Rattle.geokeys.specs.GeoKeys.{GeoKey}
+use Rattle.geokeys.specs.GeoKeys as found
+use Rattle.geokeys.specs.Halving.{KeyRead}
 use Rattle.capi.specs.declared.vlr.las_record.{las_record}
 use Rattle.capi.specs.declared.vlr.las_geokey.{las_geokey}
 use Rattle.capi.specs.declared.vlr.las_geokey_read.{las_geokey_read}

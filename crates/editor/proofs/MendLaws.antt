@@ -12,8 +12,7 @@ use lib.Dec.{eqb, lit≤, lit<}
 use lib.ListN.{length, drop, get_or, replicate, length-drop}
 use lib.Seq.{sets, length-sets}
 use Rattle.fields.specs.Bytes.{Bytes, AllBytes, part, num, same, bytes_of, pieces, numbers_bytes}
-use Rattle.fields.specs.Checks.{Verdict}
-use Rattle.fields.specs.Checks.{Passes, Fails}
+use Rattle.fields.specs.Checks.{Verdict, Passes, Fails}
 use Rattle.fields.proofs.ByteLaws.{same→eq, same_self, num-bytes_of, bytes_of-num, length_part, length-pieces, drop_bytes, take_bytes}
 use Rattle.fields.proofs.StoreLaws.{Apart, part_outside, part_stored, drop_behind}
 use Rattle.fields.proofs.arrays.NumberLaws.{length_numbers, numbers_part, stored_next}

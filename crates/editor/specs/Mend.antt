@@ -3,8 +3,7 @@
 use Rattle.std.specs.Prelude.{ℕ, ◌+◌, ◌-◌, ◌*◌, ◌/◌, ◌^◌, ◌<◌, min, Bool, false, not, List, [], ◌∷◌, ◌++◌, map, length, drop, get_or, replicate}
 use Rattle.std.proofs.lemmas.List.Edits.{sets}
 use Rattle.fields.specs.Bytes.{Bytes, part, same, bytes_of, pieces, numbers_bytes}
-use Rattle.fields.specs.Checks.{Verdict}
-use Rattle.fields.specs.Checks.{Passes, Fails}
+use Rattle.fields.specs.Checks.{Verdict, Passes, Fails}
 use Rattle.scaling.specs.Scaling.{scaling_of}
 use Rattle.lasfile.specs.HeaderFields.{point_offset, format, record_length, point_count}
 use Rattle.lasfile.specs.FileChecks.{mend_verdict}
@@ -12,7 +11,6 @@ use Rattle.scaling.specs.declared.Bounds.{Bounds}
 use Rattle.publicpart.specs.Bounds.{bins, bounds, bound_numbers}
 use Rattle.tally.specs.declared.Tally.{Tally}
 use Rattle.tally.specs.Bins.{bin_numbers}
-use Rattle.editor.specs.declared.mend.Mended.{Mended}
 
 -- ---- the file
 
@@ -55,6 +53,12 @@ changed s t f = not (same (part f.0 f.1 s) (part f.0 f.1 t))
 -- yes exactly if that field's bytes changed
 unfoldable pub marks : Bytes → Bytes → List Bool
 marks s t = map (changed s t) mended_fields
+
+-- the first check that fails; and whether the bytes of each mended field changed: number of points, points by return 1
+-- to 5, max X, min X, max Y, min Y, max Z, min Z
+pub record Mended : Type 0 where
+  pub verdict : Verdict
+  pub marks : List Bool
 
 -- ---- the answer, and the file afterwards
 

@@ -11,9 +11,7 @@ use lib.ListN.{take, drop}
 use lib.Dec.{T, eqb, ltb, ltb→lt, nltb→le, not_T}
 use Rattle.fields.specs.Bytes.{Bytes, same}
 use Rattle.fields.specs.Lists.{All}
-use Rattle.fields.specs.Checks.{Verdict}
-use Rattle.fields.specs.Checks.{Passes, Fails}
-use Rattle.fields.specs.Checks.{Test, ◌below◌, ◌differs_from◌, not_so, ◌or◌, fails, Clear, Check, fail_if, first_failing, then, AllClear}
+use Rattle.fields.specs.Checks.{Verdict, Passes, Fails, Test, ◌below◌, ◌differs_from◌, not_so, ◌or◌, fails, Clear, Check, fail_if, first_failing, then, AllClear}
 use Rattle.fields.proofs.ByteLaws.{same→eq, same_refl}
 
 not-or : (a b : Bool) → T (not (a || b)) → T (not a) × T (not b)
@@ -148,6 +146,14 @@ in_parts zero cs = refl
 in_parts (suc k) [] = refl
 in_parts (suc k) (c ∷ cs) =
     then_fail (fails c.1) c.0 (first_failing (take k cs)) (first_failing (drop k cs)) ∙ ap (fail_if (fails c.1) c.0) (in_parts k cs)
+
+-- what is found among the first k is found among all
+pub fails_in_front : (k : ℕ) (cs : List Check) (n : ℕ) → Fails n ≡ first_failing (take k cs) → Fails n ≡ first_failing cs
+fails_in_front k cs n e = sym (then_fails (first_failing (take k cs)) (first_failing (drop k cs)) n (sym e)) ∙ in_parts k cs
+
+-- where the first k pass, the others decide
+pub passes_in_front : (k : ℕ) (cs : List Check) → Passes ≡ first_failing (take k cs) → first_failing (drop k cs) ≡ first_failing cs
+passes_in_front k cs e = sym (then_passes (first_failing (take k cs)) (first_failing (drop k cs)) (sym e)) ∙ in_parts k cs
 
 -- ---- the numbers of a table
 

@@ -3,4 +3,5 @@ pub mod ByteLaws
 pub mod StoreLaws
 pub mod TextLaws
 pub mod CheckLaws
+pub mod RefusalLaws
 pub mod LiftLaws

@@ -6,17 +6,13 @@ use Prim.Native.Nat.{ℕ, ◌+◌, ◌*◌, ◌≤◌, ◌<◌, ◌^◌}
 use native.Mathlib.Omega.{arith}
 use lib.ListN.{length, drop}
 use Rattle.fields.specs.Bytes.{Bytes, AllBytes}
-use Rattle.fields.specs.Checks.{first_failing}
-use Rattle.fields.specs.Checks.{Verdict}
-use Rattle.fields.specs.Checks.{Passes, Fails}
+use Rattle.fields.specs.Checks.{first_failing, Verdict, Passes, Fails}
 use Rattle.fields.proofs.ByteLaws.{num-part-lt, length-part-le, length-pieces}
 use Rattle.fields.proofs.CheckLaws.{none_fails, then_passed}
 use Rattle.lasfile.specs.Records.{payload_length}
 use Rattle.lasfile.proofs.vlr.FieldLaws.{record_at-payload, length_at}
-use Rattle.geokeys.specs.GeoKeys.{projection_place, payload_at, key_count, directory_checks, entries, answer_if, from_entry, payload_in, directory_of, directory_verdict, entries_in, searched, search_verdict}
-use Rattle.geokeys.specs.Halving.{halve, key_read, read_if, lookup_by_halving}
-use Rattle.geokeys.specs.declared.GeoKey.TheVariants.{Refused}
-use Rattle.geokeys.specs.declared.halving.KeyRead.{KeyRead}
+use Rattle.geokeys.specs.GeoKeys.{projection_place, payload_at, key_count, directory_checks, entries, answer_if, from_entry, payload_in, directory_of, directory_verdict, entries_in, searched, search_verdict, Refused}
+use Rattle.geokeys.specs.Halving.{halve, key_read, read_if, lookup_by_halving, KeyRead}
 use Rattle.geokeys.proofs.HalvingLaws.{few_reads}
 
 -- ---- an answer after a verdict

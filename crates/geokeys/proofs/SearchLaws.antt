@@ -10,19 +10,13 @@ use Rattle.fields.specs.Lists.{All}
 use Rattle.fields.specs.Bytes.{Bytes, part, num}
 use Rattle.fields.proofs.ByteLaws.{part-part}
 use Rattle.fields.proofs.CheckLaws.{then_passes, then_first, then_fails}
-use Rattle.fields.specs.Checks.{first_failing}
-use Rattle.fields.specs.Checks.{Verdict}
-use Rattle.fields.specs.Checks.{Passes, Fails}
+use Rattle.fields.specs.Checks.{first_failing, Verdict, Passes, Fails}
 use Rattle.lasfile.specs.FileChecks.{file_verdict}
-use Rattle.geokeys.specs.declared.GeoKey.{GeoKey}
-use Rattle.geokeys.specs.declared.GeoKey.TheVariants.{Refused}
+use Rattle.geokeys.specs.GeoKeys.{GeoKey, Refused, or_later, first, projection_place, payload_at, directory_checks, key_of, entries, answer_if, either, payload_in, directory_of, directory_verdict, entries_in, searched, search_verdict}
 use Rattle.geokeys.specs.declared.Found.{Found}
 use Rattle.geokeys.specs.declared.Found.TheVariants.{At, Nothing}
-use Rattle.geokeys.specs.declared.DirectoryAt.{DirectoryAt}
-use Rattle.geokeys.specs.declared.DirectoryAt.TheVariants.{Place}
-use Rattle.geokeys.specs.declared.DirectoryAt.TheVariants as refused
-use Rattle.geokeys.specs.Places.{place_in, Low, place_if, Searches}
-use Rattle.geokeys.specs.GeoKeys.{or_later, first, projection_place, payload_at, directory_checks, key_of, entries, answer_if, either, payload_in, directory_of, directory_verdict, entries_in, searched, search_verdict}
+use Rattle.geokeys.specs.Places as refused
+use Rattle.geokeys.specs.Places.{DirectoryAt, Place, place_in, Low, place_if, Searches}
 
 module _ {ℓ} {A : Type ℓ} (p : A → Bool) (x : A) (xs : List A) where
   pub first_here : p x ≡ true → first p (x ∷ xs) ≡ some x

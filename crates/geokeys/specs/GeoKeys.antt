@@ -3,14 +3,10 @@
 use Rattle.std.specs.Prelude.{ℕ, ◌+◌, ◌*◌, Bool, true, false, ◌&&◌, ◌||◌, List, [], ◌∷◌, length, drop, eqb}
 use Rattle.std.proofs.Math.Option.{Option, none, some}
 use Rattle.fields.specs.Bytes.{Bytes, part, num, same, pieces}
-use Rattle.fields.specs.Checks.{Check, first_failing, then, ◌below◌, ◌differs_from◌, not_so, ◌or◌}
-use Rattle.fields.specs.Checks.{Verdict}
-use Rattle.fields.specs.Checks.{Passes, Fails}
+use Rattle.fields.specs.Checks.{Check, first_failing, then, ◌below◌, ◌differs_from◌, not_so, ◌or◌, Verdict, Passes, Fails}
 use Rattle.lasfile.specs.Records.{record_at, places, front_size}
 use Rattle.lasfile.specs.HeaderFields.{header_size, record_count}
 use Rattle.lasfile.specs.FileChecks.{file_verdict}
-use Rattle.geokeys.specs.declared.GeoKey.{GeoKey}
-use Rattle.geokeys.specs.declared.GeoKey.TheVariants.{Value, Double, Text, Refused}
 
 -- "LASF_Projection"
 abbrev pub projection : Bytes
@@ -78,6 +74,13 @@ entry_checks entry =
     ∷ []
 
 -- ---- the answer
+
+-- a key's value: a number, a double's 64 bits, a text's place in the file and its length; or the number of a refusal
+pub data GeoKey : Type 0 where
+  Value : ℕ → GeoKey
+  Double : ℕ → GeoKey
+  Text : ℕ → ℕ → GeoKey
+  Refused : ℕ → GeoKey
 
 unfoldable pub answer_if : Verdict → GeoKey → GeoKey
 answer_if Passes g = g

@@ -4,11 +4,8 @@
 use Rattle.std.specs.Prelude.{ℕ, zero, suc, ◌+◌, ◌/◌, Bool, true, false, List, [], ◌∷◌, length, take, drop, get_or, eqb, ltb}
 use Rattle.std.proofs.Math.Option.{Option, none, some}
 use Rattle.fields.specs.Bytes.{Bytes}
-use Rattle.fields.specs.Checks.{Verdict}
-use Rattle.fields.specs.Checks.{Passes, Fails}
-use Rattle.geokeys.specs.GeoKeys.{key_of, from_entry, searched, search_verdict}
-use Rattle.geokeys.specs.declared.GeoKey.TheVariants.{Refused}
-use Rattle.geokeys.specs.declared.halving.KeyRead.{KeyRead}
+use Rattle.fields.specs.Checks.{Verdict, Passes, Fails}
+use Rattle.geokeys.specs.GeoKeys.{GeoKey, Refused, key_of, from_entry, searched, search_verdict}
 
 -- ---- the entries that are left
 
@@ -56,6 +53,11 @@ unfoldable pub halve : List Bytes → ℕ → Halved
 halve es key = halving (length es) es key
 
 -- ---- the lookup
+
+-- what a lookup finds, or its number, and how many entries of the directory it read
+pub record KeyRead : Type 0 where
+  pub found : GeoKey
+  pub reads : ℕ
 
 -- the answer by the entry that was found, 42 to 46, with the entries read for it
 unfoldable pub key_read : Bytes → Halved → KeyRead

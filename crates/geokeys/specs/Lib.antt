@@ -1,3 +1,4 @@
 pub mod GeoKeys
 pub mod Halving
 pub mod Places
+pub mod Values

@@ -3,14 +3,11 @@
 use Rattle.std.specs.Prelude.{◌≡◌, ℕ, ◌<◌, ◌^◌, List, drop}
 use Rattle.std.proofs.Math.Option.{Option, none, some}
 use Rattle.fields.specs.Bytes.{Bytes, part, pieces}
-use Rattle.fields.specs.Checks.{Verdict}
-use Rattle.fields.specs.Checks.{Passes, Fails}
+use Rattle.fields.specs.Checks.{Verdict, Passes, Fails}
 use Rattle.geokeys.specs.GeoKeys.{payload_at, directory_of, search_verdict}
 use Rattle.geokeys.specs.Halving.{Halved}
 use Rattle.geokeys.specs.declared.Found.{Found}
 use Rattle.geokeys.specs.declared.Found.TheVariants.{At, Nothing}
-use Rattle.geokeys.specs.declared.DirectoryAt.{DirectoryAt}
-use Rattle.geokeys.specs.declared.DirectoryAt.TheVariants.{Place, Refused}
 use Rattle.geokeys.specs.declared.halving.Search.{Search}
 
 unfoldable pub place_in : Found → Option ℕ
@@ -34,6 +31,11 @@ halved_in directory r = record { entry = entry_in directory r.found; reads = r.r
 abbrev pub Low : Found → Type 0
 Low (At at) = at < 2 ^ 32
 Low Nothing = Unit {0}
+
+-- the place of the record whose payload is the directory that is searched; or the number of a refusal
+pub data DirectoryAt : Type 0 where
+  Place : ℕ → DirectoryAt
+  Refused : ℕ → DirectoryAt
 
 -- the directory's place, or its number
 unfoldable pub place_if : Verdict → ℕ → DirectoryAt

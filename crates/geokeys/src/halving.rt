@@ -4,15 +4,17 @@ ghost use Rattle.fields.specs.Checks.{Passes};
 ghost use Rattle.lasfile.specs.FileChecks.{file_verdict};
 ghost use Rattle.geokeys.specs.GeoKeys.{entries};
 ghost use Rattle.geokeys.specs.Halving.{halve, key_read, lookup_by_halving};
+ghost use Rattle.geokeys.specs.Values.{read_of};
 ghost use Rattle.geokeys.specs.Places.{entries_from, halved_in};
 
-use crate::{DirectoryAt, ENTRY, Found, GeoKey, at_entry, find_directory, payload_at};
+use crate::{ENTRY, Found, KeyValue, at_entry, find_directory, payload_at};
 use fields::numbers::number_at;
+use fields::refusal::Refusal;
 
-// What a lookup found, or its number, and how many entries of the directory it read.
+// What a lookup found, or why it found nothing, and how many entries of the directory it read.
 #[derive(Clone, Copy)]
 pub struct KeyRead {
-    pub found: GeoKey,
+    pub found: Result<KeyValue, Refusal>,
     pub reads: u64,
 }
 
@@ -65,7 +67,7 @@ fn halve(directory: &[u8], at: usize, left: usize, key: u16) -> Search
 // Numbers 42 to 46, or the value of a key in a directory, and the entries read for it.
 fn in_directory(file: &[u8], directory: &[u8], key: u16) -> KeyRead
     requires { file_verdict file.now ≡ Passes }
-    ensures { result ≡ key_read file.now (halve (entries directory.now) key) }
+    ensures { read_of result ≡ key_read file.now (halve (entries directory.now) key) }
 {
     let search = halve(directory, ENTRY, number_at(directory, 6, 2) as usize, key);
     let place = search.found;
@@ -78,13 +80,12 @@ fn in_directory(file: &[u8], directory: &[u8], key: u16) -> KeyRead
 
 // The value of a key, by halving: it checks the file, then 40 to 46, and says how many entries it read.
 pub fn find_by_halving(file: &[u8], key: u16) -> KeyRead
-    ensures { (result ≡ lookup_by_halving file.now key) × (result.reads ≤ 13) }
+    ensures { (read_of result ≡ lookup_by_halving file.now key) × (result.reads ≤ 13) }
 {
-    let searched = find_directory(file);
-    match searched {
-        DirectoryAt::Place(at) => in_directory(file, payload_at(file, at), key),
-        DirectoryAt::Refused(n) => KeyRead {
-            found: GeoKey::Refused(n),
+    match find_directory(file) {
+        Ok(at) => in_directory(file, payload_at(file, at), key),
+        Err(refusal) => KeyRead {
+            found: Err(refusal),
             reads: 0,
         },
     }

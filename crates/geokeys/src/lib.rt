@@ -6,23 +6,26 @@ pub mod halving;
 ghost use Rattle.std.specs.Prelude.{◌≡◌, ◌+◌, ◌<◌, ◌^◌};
 ghost use Rattle.std.proofs.Math.Option.{some};
 ghost use Rattle.fields.specs.Checks.{first_failing};
+ghost use Rattle.fields.specs.Refusals.{verdict_of, by_number};
 ghost use Rattle.fields.specs.Checks.{Passes};
 ghost use Rattle.lasfile.specs.FileChecks.{file_verdict};
-ghost use Rattle.geokeys.specs.GeoKeys.{is_projection, projection_place, payload_at, directory_checks, entries, entry_of, in_payload, from_entry, lookup};
+ghost use Rattle.geokeys.specs.GeoKeys.{Refused, is_projection, projection_place, payload_at, directory_checks, entries, entry_of, in_payload, from_entry, lookup};
+ghost use Rattle.geokeys.specs.Places as directory;
+ghost use Rattle.geokeys.specs.Values.{geokey_of};
 ghost use Rattle.geokeys.specs.Places.{place_in, entry_in, Low, place_if, Searches};
 
 use fields::numbers::number_at;
-use fields::{Verdict, refusals, slices, text};
+use fields::refusal::Refusal;
+use fields::{slices, text};
 use lasfile::vlr::{FRONT, RECORD_ID, USER_ID};
 use lasfile::{header, vlr};
 
-// A key's value: a number, a double's 64 bits, a text's place in the file and its length; or a refusal's number.
-#[derive(Clone, Copy)]
-pub enum GeoKey {
-    Value(u64),
+// A key's value: a number, a double's 64 bits, or a text's place in the file and its length.
+#[derive(Clone, Copy, Debug, PartialEq, Eq)]
+pub enum KeyValue {
+    Number(u64),
     Double(u64),
     Text(usize, usize),
-    Refused(u64),
 }
 
 // The record IDs of the directory, and of the records that hold doubles and texts; a key's location is one of these
@@ -46,13 +49,6 @@ const VALUE_OFFSET: usize = 6;
 pub(crate) enum Found {
     At(usize),
     Nothing,
-}
-
-// The place of the record whose payload is the directory that is searched; or a refusal's number.
-#[derive(Clone, Copy)]
-pub(crate) enum DirectoryAt {
-    Place(usize),
-    Refused(u64),
 }
 
 // Whether the record at a place is of "LASF_Projection" and has this record ID.
@@ -89,34 +85,32 @@ pub(crate) fn payload_at(file: &[u8], at: usize) -> &[u8]
 }
 
 // Number 41.
-fn check_directory(directory: &[u8]) -> Verdict
-    ensures { result ≡ first_failing (directory_checks directory.now) }
+fn check_directory(directory: &[u8]) -> Result<(), Refusal>
+    ensures { verdict_of result ≡ first_failing (directory_checks directory.now) }
 {
     if directory.len() < ENTRY {
-        return Verdict::Fails(Refusal::BadDirectory);
+        return Err(Refusal::BadDirectory);
     }
     if !slices::same_bytes(
         slices::part_at(directory, 0, 6),
         b"\x01\x00\x01\x00\x00\x00",
     ) {
-        return Verdict::Fails(Refusal::BadDirectory);
+        return Err(Refusal::BadDirectory);
     }
     if (directory.len() as u64) < 8 + 8 * number_at(directory, 6, 2) {
-        return Verdict::Fails(Refusal::BadDirectory);
+        return Err(Refusal::BadDirectory);
     }
-    Verdict::Passes
+    Ok(())
 }
 
 // The place of a directory, where it passes.
-fn checked_at(file: &[u8], at: usize) -> DirectoryAt
+#[tactic(auto, unfolding(crate::specs::Places::place_if))]
+fn checked_at(file: &[u8], at: usize) -> Result<usize, Refusal>
     requires { at + 54 < 2 ^ 64 }
-    ensures { result ≡ place_if (first_failing (directory_checks (payload_at file.now at))) at }
+    ensures { by_number directory.Place directory.Refused result ≡ place_if (first_failing (directory_checks (payload_at file.now at))) at }
 {
-    let verdict = check_directory(payload_at(file, at));
-    match verdict {
-        Verdict::Fails(n) => DirectoryAt::Refused(n),
-        Verdict::Passes => DirectoryAt::Place(at),
-    }
+    check_directory(payload_at(file, at))?;
+    Ok(at)
 }
 
 // The first entry of a key.
@@ -136,88 +130,82 @@ fn find_entry(directory: &[u8], key: u16) -> Found
 }
 
 // The value of an entry in the payload of a parameter record, whose place is `at`: number 46, or a double, or a text.
-fn in_payload(entry: &[u8], at: usize, parameters: &[u8]) -> GeoKey
+fn in_payload(entry: &[u8], at: usize, parameters: &[u8]) -> Result<KeyValue, Refusal>
     requires { at < 2 ^ 32 }
-    ensures { result ≡ in_payload entry.now at parameters.now }
+    ensures { by_number geokey_of Refused result ≡ in_payload entry.now at parameters.now }
 {
     let count = number_at(entry, COUNT, 2) as usize;
     let offset = number_at(entry, VALUE_OFFSET, 2) as usize;
     if number_at(entry, LOCATION, 2) == DOUBLES {
         if parameters.len() < 8 * offset + 8 {
-            return GeoKey::Refused(Refusal::ValuePastEnd);
+            return Err(Refusal::ValuePastEnd);
         }
-        return GeoKey::Double(number_at(parameters, 8 * offset, 8));
+        return Ok(KeyValue::Double(number_at(parameters, 8 * offset, 8)));
     }
     if parameters.len() < offset + count {
-        return GeoKey::Refused(Refusal::ValuePastEnd);
+        return Err(Refusal::ValuePastEnd);
     }
-    GeoKey::Text(at + FRONT + offset, count)
+    Ok(KeyValue::Text(at + FRONT + offset, count))
 }
 
 // Numbers 43 to 46, or the value of an entry.
-fn from_entry(file: &[u8], entry: &[u8]) -> GeoKey
+fn from_entry(file: &[u8], entry: &[u8]) -> Result<KeyValue, Refusal>
     requires { file_verdict file.now ≡ Passes }
-    ensures { result ≡ from_entry file.now (some entry.now) }
+    ensures { by_number geokey_of Refused result ≡ from_entry file.now (some entry.now) }
 {
     let location = number_at(entry, LOCATION, 2);
     let count = number_at(entry, COUNT, 2);
     if !((location == 0) | ((location == DOUBLES) | (location == TEXTS))) {
-        return GeoKey::Refused(Refusal::BadLocation);
+        return Err(Refusal::BadLocation);
     }
     if !((location == TEXTS) | (count == 1)) {
-        return GeoKey::Refused(Refusal::BadCount);
+        return Err(Refusal::BadCount);
     }
     if location == 0 {
-        return GeoKey::Value(number_at(entry, VALUE_OFFSET, 2));
+        return Ok(KeyValue::Number(number_at(entry, VALUE_OFFSET, 2)));
     }
     let found = find_projection(file, location);
     match found {
         Found::At(at) => in_payload(entry, at, payload_at(file, at)),
-        Found::Nothing => GeoKey::Refused(Refusal::NoParameters),
+        Found::Nothing => Err(Refusal::NoParameters),
     }
 }
 
 // Numbers 42 to 46, or the value of the entry that a search in a directory found.
-pub(crate) fn at_entry(file: &[u8], directory: &[u8], found: Found) -> GeoKey
+pub(crate) fn at_entry(file: &[u8], directory: &[u8], found: Found) -> Result<KeyValue, Refusal>
     requires { file_verdict file.now ≡ Passes }
-    ensures { result ≡ from_entry file.now (entry_in directory.now found) }
+    ensures { by_number geokey_of Refused result ≡ from_entry file.now (entry_in directory.now found) }
 {
     match found {
         Found::At(at) => from_entry(file, slices::part_at(directory, at, ENTRY)),
-        Found::Nothing => GeoKey::Refused(Refusal::NoKey),
+        Found::Nothing => Err(Refusal::NoKey),
     }
 }
 
 // Numbers 42 to 46, or the value of a key in a directory.
-fn in_directory(file: &[u8], directory: &[u8], key: u16) -> GeoKey
+fn in_directory(file: &[u8], directory: &[u8], key: u16) -> Result<KeyValue, Refusal>
     requires { file_verdict file.now ≡ Passes }
-    ensures { result ≡ from_entry file.now (entry_of (entries directory.now) key) }
+    ensures { by_number geokey_of Refused result ≡ from_entry file.now (entry_of (entries directory.now) key) }
 {
     at_entry(file, directory, find_entry(directory, key))
 }
 
 // Checks the file, then 40 and 41.
-pub(crate) fn find_directory(file: &[u8]) -> DirectoryAt
-    ensures { Searches file.now result }
+pub(crate) fn find_directory(file: &[u8]) -> Result<usize, Refusal>
+    ensures { Searches file.now (by_number directory.Place directory.Refused result) }
 {
-    let verdict = lasfile::check_file(file);
-    if let Verdict::Fails(n) = verdict {
-        return DirectoryAt::Refused(n);
-    }
+    lasfile::check_file(file)?;
     let found = find_projection(file, DIRECTORY);
     match found {
         Found::At(at) => checked_at(file, at),
-        Found::Nothing => DirectoryAt::Refused(Refusal::NoDirectory),
+        Found::Nothing => Err(Refusal::NoDirectory),
     }
 }
 
 // The value of a key: it checks the file, then 40 to 46.
-pub fn find(file: &[u8], key: u16) -> GeoKey
-    ensures { result ≡ lookup file.now key }
+pub fn find(file: &[u8], key: u16) -> Result<KeyValue, Refusal>
+    ensures { by_number geokey_of Refused result ≡ lookup file.now key }
 {
-    let searched = find_directory(file);
-    match searched {
-        DirectoryAt::Place(at) => in_directory(file, payload_at(file, at), key),
-        DirectoryAt::Refused(n) => GeoKey::Refused(n),
-    }
+    let at = find_directory(file)?;
+    in_directory(file, payload_at(file, at), key)
 }

@@ -11,9 +11,7 @@ use lib.Dec.{T, eqb}
 use lib.ListN.{length, take, drop}
 use Rattle.fields.specs.Lists.{kept, cons_if}
 use Rattle.fields.specs.Bytes.{Bytes}
-use Rattle.fields.specs.Checks.{Check, Clear, AllClear, fails, fail_if, first_failing, number_of}
-use Rattle.fields.specs.Checks.{Verdict}
-use Rattle.fields.specs.Checks.{Passes, Fails}
+use Rattle.fields.specs.Checks.{Check, Clear, AllClear, fails, fail_if, first_failing, number_of, Verdict, Passes, Fails}
 use Rattle.fields.proofs.CheckLaws.{none_fails, all_clear, then_passes, then_fails, in_parts, Without, never_given}
 use Rattle.scaling.specs.Scaling.{scaling_of, good_scaling}
 use Rattle.lasfile.specs.HeaderFields.{header_size, point_offset, record_count, record_length, point_count}

@@ -3,8 +3,7 @@
 use Rattle.std.specs.Prelude.{ℕ, ◌+◌, ◌*◌, not, List, [], ◌∷◌, eqb, length}
 use Rattle.fields.specs.Lists.{kept}
 use Rattle.fields.specs.Bytes.{Bytes, part}
-use Rattle.fields.specs.Checks.{Check, first_failing, ◌below◌, ◌differs_from◌, not_so, ◌or◌}
-use Rattle.fields.specs.Checks.{Verdict}
+use Rattle.fields.specs.Checks.{Check, first_failing, ◌below◌, ◌differs_from◌, not_so, ◌or◌, Verdict}
 use Rattle.points.specs.Formats.{format_size}
 use Rattle.lasfile.specs.HeaderFields.{signature, version, header_block, header_size, point_offset, record_count, format, record_length, point_count}
 use Rattle.lasfile.specs.Records.{walk_end}

@@ -103,7 +103,10 @@ pub fn check_mendable(file: &[u8]) -> Result<(), Refusal>
     ensures { verdict_of result ≡ mend_verdict file.now }
 {
     match check_file(file) {
-        Err(Refusal::PointsPastEnd) => check_scaling(file),
-        checked => checked,
+        Ok(()) => Ok(()),
+        Err(refusal) => match refusal {
+            Refusal::PointsPastEnd => check_scaling(file),
+            _ => Err(refusal),
+        },
     }
 }

@@ -15,8 +15,7 @@ use Rattle.points.specs.declared.formats.Place.TheVariants.{At}
 use Rattle.points.specs.declared.layouts.Layout.{Layout}
 use Rattle.points.specs.Formats.{format_size, time_place, colour_place, layout_of}
 use Rattle.points.specs.declared.Point.{Point}
-use Rattle.points.specs.declared.Decoded.TheVariants.{Fields, Refused}
-use Rattle.points.specs.Points.{shape, number_in, decode_checks, fields_if, decoded, point_of}
+use Rattle.points.specs.Points.{Fields, Refused, shape, number_in, decode_checks, fields_if, decoded, point_of}
 use Rattle.points.specs.Encoding.{blank}
 use Rattle.points.proofs.formats.FormatLaws.{shared_first, time_held, colour_held}
 

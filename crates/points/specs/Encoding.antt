@@ -5,9 +5,7 @@ use Rattle.std.proofs.lemmas.List.Edits.{sets}
 use Rattle.std.specs.Int.{w8, w32}
 use mir.Val.{SFits, of_z, bool_byte}
 use Rattle.fields.specs.Bytes.{Bytes, bytes_of, join}
-use Rattle.fields.specs.Checks.{Test, Check, ◌below◌, ◌or◌, first_failing}
-use Rattle.fields.specs.Checks.{Verdict}
-use Rattle.fields.specs.Checks.{Passes, Fails}
+use Rattle.fields.specs.Checks.{Test, Check, ◌below◌, ◌or◌, first_failing, Verdict, Passes, Fails}
 use Rattle.points.specs.declared.formats.Place.{Place}
 use Rattle.points.specs.declared.formats.Place.TheVariants.{At, Absent}
 use Rattle.points.specs.Formats.{time_place, colour_place}

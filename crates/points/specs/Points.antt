@@ -4,16 +4,12 @@ use Rattle.std.specs.Prelude.{ℕ, ◌+◌, List, [], ◌∷◌, length, get_or,
 use Rattle.std.specs.Int.{w8}
 use Rattle.std.proofs.Common.{to_z}
 use Rattle.fields.specs.Bytes.{Bytes, part, num}
-use Rattle.fields.specs.Checks.{Test, Check, ◌below◌, not_so, ◌or◌, first_failing}
-use Rattle.fields.specs.Checks.{Verdict}
-use Rattle.fields.specs.Checks.{Passes, Fails}
+use Rattle.fields.specs.Checks.{Test, Check, ◌below◌, not_so, ◌or◌, first_failing, Verdict, Passes, Fails}
 use Rattle.points.specs.declared.formats.Place.{Place}
 use Rattle.points.specs.declared.formats.Place.TheVariants.{At, Absent}
 use Rattle.points.specs.Raw.{bits, bit, class_of, synthetic_of, key_point_of, withheld_of, return_of, stored}
 use Rattle.points.specs.Formats.{format_size, time_place, colour_place}
 use Rattle.points.specs.declared.Point.{Point}
-use Rattle.points.specs.declared.Decoded.{Decoded}
-use Rattle.points.specs.declared.Decoded.TheVariants.{Fields, Refused}
 
 -- ---- fields out of bytes
 
@@ -54,6 +50,11 @@ shape f len n = not_so (eqb n len) or (len below format_size f or 3 below f)
 
 unfoldable pub decode_checks : ℕ → ℕ → Bytes → List Check
 decode_checks f len p = (12, shape f len (length p)) ∷ []
+
+-- what decoding gives: the fields, or the number of a refusal
+pub data Decoded : Type 0 where
+  Fields : Point → Decoded
+  Refused : ℕ → Decoded
 
 unfoldable pub fields_if : Verdict → Point → Decoded
 fields_if Passes q = Fields q

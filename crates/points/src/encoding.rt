@@ -2,13 +2,14 @@
 ghost use Rattle.std.specs.Prelude.{◌≡◌, ℕ, ◌+◌, ◌≤◌, length};
 ghost use Rattle.fields.specs.Bytes.{bytes_of, join};
 ghost use Rattle.fields.specs.Checks.{fails};
+ghost use Rattle.fields.specs.Refusals.{verdict_of};
 ghost use Rattle.points.specs.declared.formats.Place.TheVariants.{At};
 ghost use Rattle.points.specs.Formats.{format_size};
 ghost use Rattle.points.specs.Encoding.{colours, large, start_of, stored_at, with_others, encoded};
 
 use crate::formats::Place;
 use crate::{Point, common, layouts};
-use fields::{Verdict, refusals};
+use fields::refusal::Refusal;
 
 // Red, green and blue as one number of 6 bytes.
 fn colour_of(point: Point) -> u64
@@ -60,16 +61,16 @@ fn is_large(format: u8, point: Point) -> bool
 
 // Writes a point's fields into a room of the record length. The bytes behind the format's size stay. What all formats
 // share comes last: the other fields need not be kept until it is written.
-pub fn encode(format: u8, record_length: u16, point: Point, room: &mut [u8]) -> Verdict
-    ensures { (result, room.new) ≡ encoded format record_length point room.old }
+pub fn encode(format: u8, record_length: u16, point: Point, room: &mut [u8]) -> Result<(), Refusal>
+    ensures { (verdict_of result, room.new) ≡ encoded format record_length point room.old }
 {
     if !crate::has_shape(format, record_length, room.len()) {
-        return Verdict::Fails(Refusal::BadShape);
+        return Err(Refusal::BadShape);
     }
     if is_large(format, point) {
-        return Verdict::Fails(Refusal::FieldTooLarge);
+        return Err(Refusal::FieldTooLarge);
     }
     put_others(room, format, point);
     common::put_shared(room, format, point);
-    Verdict::Passes
+    Ok(())
 }

@@ -10,12 +10,14 @@ pub mod raw;
 ghost use Rattle.std.specs.Prelude.{◌≡◌, ℕ, ◌+◌, ◌≤◌, length, not};
 ghost use Rattle.fields.specs.Bytes.{num, part};
 ghost use Rattle.fields.specs.Checks.{fails};
+ghost use Rattle.fields.specs.Refusals.{by_number};
 ghost use Rattle.points.specs.declared.formats.Place.TheVariants.{At};
-ghost use Rattle.points.specs.Points.{number_in, shape, point_of, decoded};
+ghost use Rattle.points.specs.Points.{Fields, Refused, number_in, shape, point_of, decoded};
 ghost use Rattle.points.specs.Encoding.{blank};
 
 use crate::formats::Place;
-use fields::{refusals, signed};
+use fields::refusal::Refusal;
+use fields::signed;
 
 // A point's fields. GPS time is its 64 bits, and the last three are flags of the classification byte.
 #[derive(Clone, Copy)]
@@ -39,13 +41,6 @@ pub struct Point {
     pub synthetic: bool,
     pub key_point: bool,
     pub withheld: bool,
-}
-
-// What decoding gives: the fields, or the number that it refuses with.
-#[derive(Clone, Copy)]
-pub enum Decoded {
-    Fields(Point),
-    Refused(u64),
 }
 
 fn u16_at(s: &[u8], at: usize) -> u16
@@ -152,12 +147,12 @@ pub(crate) fn has_shape(format: u8, record_length: u16, n: usize) -> bool
     (n == len) & (size <= len) & (format <= layouts::HIGHEST) & (raw::SHORTEST <= n)
 }
 
-// The fields of a point record.
-pub fn decode(format: u8, record_length: u16, bytes: &[u8]) -> Decoded
-    ensures { result ≡ decoded format record_length bytes.now }
+// The fields of a point record, or 12.
+pub fn decode(format: u8, record_length: u16, bytes: &[u8]) -> Result<Point, Refusal>
+    ensures { by_number Fields Refused result ≡ decoded format record_length bytes.now }
 {
     if !has_shape(format, record_length, bytes.len()) {
-        return Decoded::Refused(Refusal::BadShape);
+        return Err(Refusal::BadShape);
     }
     let layout = layouts::layout_of(format);
     let time = layout.time;
@@ -168,5 +163,5 @@ pub fn decode(format: u8, record_length: u16, bytes: &[u8]) -> Decoded
     point.red = rgb.red;
     point.green = rgb.green;
     point.blue = rgb.blue;
-    Decoded::Fields(point)
+    Ok(point)
 }

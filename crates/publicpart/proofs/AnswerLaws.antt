@@ -9,15 +9,12 @@ use lib.ListN.{length}
 use lib.Dec.{ltb}
 use borrow.Author.Tests.{lt-ltb, le-ltb, ltb-false}
 use Rattle.fields.specs.Bytes.{Bytes, zeros}
-use Rattle.fields.specs.Checks.{then}
-use Rattle.fields.specs.Checks.{Verdict}
-use Rattle.fields.specs.Checks.{Passes, Fails}
+use Rattle.fields.specs.Checks.{then, Verdict, Passes, Fails}
 use Rattle.lasfile.specs.FileChecks.{file_verdict}
 use Rattle.sheet.specs.Sheet.{sheet_verdict}
 use Rattle.publicpart.specs.Public.{Public, contents, public_of}
 use Rattle.publicpart.specs.Render.{render}
-use Rattle.publicpart.specs.Release.{Outcome, refuse_or, short_or, accepted, room_or, release}
-use Rattle.publicpart.specs.declared.Answer.TheVariants.{Released, Short, Refused}
+use Rattle.publicpart.specs.Release.{Outcome, refuse_or, short_or, accepted, room_or, release, Released, Short, Refused}
 
 -- ---- an output of a public part
 

@@ -11,9 +11,7 @@ use borrow.Author.Tests.{lt-ltb, le-ltb, ltb-false}
 use lib.Seq.{drop-drop}
 use Rattle.fields.specs.Lists.{kept}
 use Rattle.fields.specs.Bytes.{Bytes, part, pieces}
-use Rattle.fields.specs.Checks.{fail_if, then}
-use Rattle.fields.specs.Checks.{Verdict}
-use Rattle.fields.specs.Checks.{Passes, Fails}
+use Rattle.fields.specs.Checks.{fail_if, then, Verdict, Passes, Fails}
 use Rattle.fields.proofs.ListLaws.{all_of, kept_map, map-map, map_same}
 use Rattle.lasfile.specs.Records.{front_size, record_of, record_at, places, walk}
 use Rattle.lasfile.specs.FileChecks.{file_verdict}
@@ -23,11 +21,10 @@ use Rattle.lasfile.specs.HeaderFields.{header_size, point_offset, record_count, 
 use Rattle.sheet.specs.Keeping.{keeps_point}
 use Rattle.publicpart.specs.Public.{carried_of, sheet_keeps, public_of}
 use Rattle.publicpart.specs.declared.Span.{Span}
-use Rattle.publicpart.specs.declared.Listed.TheVariants.{Lines, Refused}
-use Rattle.publicpart.specs.Cutting.{span, named, payload_line, payload_lines, strides, piece_lines, record_lines, point_lines, cutting_lines, fill, list_verdict, list_under, cutting_list, kept_together, record_named, public_by, fill_unless, by_list_under, release_by_list}
+use Rattle.publicpart.specs.Cutting.{Lines, Refused, span, named, payload_line, payload_lines, strides, piece_lines, record_lines, point_lines, cutting_lines, fill, list_verdict, list_under, cutting_list, kept_together, record_named, public_by, fill_unless, by_list_under, release_by_list}
 use Rattle.publicpart.specs.Release.{Outcome, refuse_or, short_or, room_or, release}
 use Rattle.publicpart.specs.Render.{render}
-use Rattle.publicpart.specs.declared.Answer.TheVariants as answer
+use Rattle.publicpart.specs.Release as answer
 use Rattle.publicpart.proofs.PublicLaws.{contents_records, contents_points, public_carried, public_records, public_points}
 
 module _ (s : Bytes) where

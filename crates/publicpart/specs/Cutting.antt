@@ -3,9 +3,7 @@
 use Rattle.std.specs.Prelude.{ℕ, zero, suc, ◌+◌, ◌-◌, Bool, true, false, List, [], ◌∷◌, ◌++◌, map, length, drop, ltb}
 use Rattle.fields.specs.Lists.{kept}
 use Rattle.fields.specs.Bytes.{Bytes, part}
-use Rattle.fields.specs.Checks.{fail_if, then}
-use Rattle.fields.specs.Checks.{Verdict}
-use Rattle.fields.specs.Checks.{Passes, Fails}
+use Rattle.fields.specs.Checks.{fail_if, then, Verdict, Passes, Fails}
 use Rattle.lasfile.specs.Records.{Record, front_size, payload_length, record_of, places, record_at}
 use Rattle.lasfile.specs.HeaderFields.{header_size, point_offset, record_count, format, record_length, point_count}
 use Rattle.lasfile.specs.FileChecks.{file_verdict}
@@ -15,9 +13,7 @@ use Rattle.publicpart.specs.Public.{Public, carried_of, sheet_keeps, public_of}
 use Rattle.publicpart.specs.Render.{render}
 use Rattle.publicpart.specs.Release.{Outcome, room_or}
 use Rattle.publicpart.specs.declared.Span.{Span}
-use Rattle.publicpart.specs.declared.Answer.TheVariants as answer
-use Rattle.publicpart.specs.declared.Listed.{Listed}
-use Rattle.publicpart.specs.declared.Listed.TheVariants.{Lines, Refused}
+use Rattle.publicpart.specs.Release as answer
 
 -- a line: a place and a length
 abbrev pub span : ℕ → ℕ → Span
@@ -73,6 +69,11 @@ kept_together p = length p.records + length p.points
 unfoldable pub list_verdict : Bytes → Bytes → ℕ → Verdict
 list_verdict sheet s lines =
     then (then (file_verdict s) (sheet_verdict sheet)) (fail_if (ltb lines (kept_together (public_of sheet s))) 31 Passes)
+
+-- what a cutting list answers: how many lines it has, or the number of the check that fails
+pub data Listed : Type 0 where
+  Lines : ℕ → Listed
+  Refused : ℕ → Listed
 
 -- an answer, and the list afterwards
 unfoldable pub list_under : Verdict → List Span → List Span → Listed × List Span

@@ -4,3 +4,4 @@ pub mod Head
 pub mod Render
 pub mod Release
 pub mod Cutting
+pub mod Answers

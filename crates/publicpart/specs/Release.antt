@@ -2,15 +2,20 @@
 -- Assumes nothing.
 use Rattle.std.specs.Prelude.{ℕ, ◌-◌, Bool, true, false, ◌++◌, length, ltb}
 use Rattle.fields.specs.Bytes.{Bytes, zeros}
-use Rattle.fields.specs.Checks.{then}
-use Rattle.fields.specs.Checks.{Verdict}
-use Rattle.fields.specs.Checks.{Passes, Fails}
+use Rattle.fields.specs.Checks.{then, Verdict, Passes, Fails}
 use Rattle.lasfile.specs.FileChecks.{file_verdict}
 use Rattle.sheet.specs.Sheet.{sheet_verdict}
 use Rattle.publicpart.specs.Public.{Public, public_of}
 use Rattle.publicpart.specs.Render.{render}
-use Rattle.publicpart.specs.declared.Answer.{Answer}
-use Rattle.publicpart.specs.declared.Answer.TheVariants.{Released, Short, Refused}
+
+-- what a release answers
+pub data Answer : Type 0 where
+  -- the released file's length, its points and its records
+  Released : ℕ → ℕ → ℕ → Answer
+  -- the output is too short for the released file, whose length this is
+  Short : ℕ → Answer
+  -- the number of the check that fails
+  Refused : ℕ → Answer
 
 -- an answer, and the output afterwards
 abbrev pub Outcome : Type 0

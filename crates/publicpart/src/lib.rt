@@ -1,31 +1,69 @@
-// The public part of a file, what a sheet leaves of it, the released file and the cutting list. There is no code here
-// but the types of answers and of a list's lines: the definitions stand in specs/.
+// The public part of a file, what a sheet leaves of it, the released file and the cutting list: the definitions stand in
+// specs/. What is code here is what a release answers, and a line of a list.
 #![tactic(auto)]
 
-// What a release answers.
-#[derive(Clone, Copy)]
-pub enum Answer {
-    // The released file's length, its points and its records.
-    Released(usize, usize, usize),
-    // The output is too short for the released file, whose length this is.
-    Short(usize),
-    // The number of the check that fails.
-    Refused(u64),
+ghost use Rattle.std.specs.Prelude.{◌≡◌};
+ghost use Rattle.publicpart.specs.Answers.{error_number};
+ghost use Rattle.publicpart.specs.declared.ReleaseError.TheVariants.{Refused};
+
+use fields::refusal::Refusal;
+use std::error::Error;
+use std::fmt;
+
+// What was released: the file's length in bytes, its points and its records.
+#[derive(Clone, Copy, Debug, PartialEq, Eq)]
+pub struct Released {
+    pub length: usize,
+    pub points: usize,
+    pub records: usize,
 }
+
+// Why nothing was released.
+#[derive(Clone, Copy, Debug, PartialEq, Eq)]
+pub enum ReleaseError {
+    // A check fails.
+    Refused(Refusal),
+    // The output is shorter than the released file, whose length this is.
+    OutputTooShort(usize),
+}
+
+impl ReleaseError {
+    // Its number in the tables of docs/SPECIFICATION.md: 30 for a short output.
+    pub fn number(self) -> u64
+        ensures { result ≡ error_number self }
+    {
+        match self {
+            ReleaseError::Refused(refusal) => refusal.number(),
+            ReleaseError::OutputTooShort(_) => 30,
+        }
+    }
+}
+
+impl From<Refusal> for ReleaseError {
+    ghost from_gives = { λ refusal error. error ≡ Refused refusal };
+
+    fn from(refusal: Refusal) -> ReleaseError {
+        ReleaseError::Refused(refusal)
+    }
+}
+
+impl fmt::Display for ReleaseError {
+    fn fmt<W: fmt::Write>(&self, f: &mut fmt::Formatter<W>) -> fmt::Result {
+        match *self {
+            ReleaseError::Refused(refusal) => write!(f, "{refusal}"),
+            ReleaseError::OutputTooShort(needed) => {
+                write!(f, "output shorter than the {needed} bytes of the released file")
+            }
+        }
+    }
+}
+
+impl Error for ReleaseError {}
 
 // A line of a cutting list: the bytes of a file from a place on.
 #[repr(C)]
-#[derive(Clone, Copy)]
+#[derive(Clone, Copy, Debug, PartialEq, Eq)]
 pub struct Span {
     pub place: u64,
     pub length: u64,
-}
-
-// What a cutting list answers.
-#[derive(Clone, Copy)]
-pub enum Listed {
-    // How many lines it has.
-    Lines(usize),
-    // The number of the check that fails.
-    Refused(u64),
 }

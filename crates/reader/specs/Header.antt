@@ -1,10 +1,9 @@
 -- The public header block of LAS 1.2: every field, or the number of the first file check that fails.
 -- Assumes nothing.
-use Rattle.std.specs.Prelude.{length}
+use Rattle.std.specs.Prelude.{ℕ, length}
 use Rattle.fields.specs.Bytes.{Bytes, part, num}
 use Rattle.fields.specs.Text.{cut}
-use Rattle.fields.specs.Checks.{Verdict}
-use Rattle.fields.specs.Checks.{Passes, Fails}
+use Rattle.fields.specs.Checks.{Verdict, Passes, Fails}
 use Rattle.scaling.specs.Scaling.{scaling_of}
 use Rattle.scaling.specs.declared.Bounds.{Bounds}
 use Rattle.lasfile.specs.HeaderFields.{header_size, point_offset, record_count, format, record_length, point_count}
@@ -14,8 +13,6 @@ use Rattle.reader.specs.declared.header.Creation.{Creation}
 use Rattle.reader.specs.declared.header.FileLayout.{FileLayout}
 use Rattle.reader.specs.declared.header.ByReturn.{ByReturn}
 use Rattle.reader.specs.declared.header.Header.{Header}
-use Rattle.reader.specs.declared.header.HeaderRead.{HeaderRead}
-use Rattle.reader.specs.declared.header.HeaderRead.TheVariants.{Fields, Refused}
 
 unfoldable pub identity_of : Bytes → Identity
 identity_of s =
@@ -82,6 +79,11 @@ header_of s =
       scaling = scaling_of s;
       bounds = stated_bounds s;
     }
+
+-- what reading a header gives: every field, or the number of a refusal
+pub data HeaderRead : Type 0 where
+  Fields : Header → HeaderRead
+  Refused : ℕ → HeaderRead
 
 unfoldable pub header_if : Verdict → Header → HeaderRead
 header_if Passes h = Fields h

@@ -3,16 +3,12 @@
 use Rattle.std.specs.Prelude.{ℕ, zero, suc, ◌+◌, List, [], ◌∷◌, length, drop, ltb}
 use Rattle.fields.specs.Bytes.{Bytes, part, num}
 use Rattle.fields.specs.Text.{cut}
-use Rattle.fields.specs.Checks.{Check, first_failing, then, ◌below◌, not_so, ◌or◌}
-use Rattle.fields.specs.Checks.{Verdict}
-use Rattle.fields.specs.Checks.{Passes, Fails}
+use Rattle.fields.specs.Checks.{Check, first_failing, then, ◌below◌, not_so, ◌or◌, Verdict, Passes, Fails}
 use Rattle.lasfile.specs.Records.{size_of, payload_length}
 use Rattle.lasfile.specs.HeaderFields.{header_size, point_offset, record_count}
 use Rattle.lasfile.specs.FileChecks.{file_verdict}
 use Rattle.reader.specs.declared.cursor.RecordPlaces.{RecordPlaces}
 use Rattle.reader.specs.declared.cursor.VlrCursor.{VlrCursor}
-use Rattle.reader.specs.declared.cursor.Step.{Step}
-use Rattle.reader.specs.declared.cursor.Step.TheVariants.{Record, Refused}
 
 -- index not below the number of VLRs, position below the header size, or a record there would run past the point offset
 abbrev pub step_checks : Bytes → ℕ → ℕ → List Check
@@ -39,6 +35,11 @@ record_places s at =
 -- the index plus 1, and the place just after the record
 unfoldable pub next_cursor : Bytes → ℕ → ℕ → VlrCursor
 next_cursor s index position = record { index = index + 1; position = position + size_of 2 (drop position s) }
+
+-- the record at a cursor, and the next cursor; or the number of a refusal
+pub data Step : Type 0 where
+  Record : RecordPlaces → VlrCursor → Step
+  Refused : ℕ → Step
 
 unfoldable pub record_if : Verdict → RecordPlaces → VlrCursor → Step
 record_if Passes r c = Record r c

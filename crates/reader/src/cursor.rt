@@ -1,9 +1,11 @@
 // The walk over a file's variable length records, a step at a time.
 ghost use Rattle.std.specs.Prelude.{◌≡◌, ◌+◌, ◌<◌, ◌^◌};
-ghost use Rattle.reader.specs.Steps.{record_places, step_of};
+ghost use Rattle.fields.specs.Refusals.{by_number};
+ghost use Rattle.reader.specs.Steps.{Record, Refused, record_places, step_of};
 
 use fields::numbers::{fits_in, number_at};
-use fields::{Verdict, refusals, slices, text};
+use fields::refusal::Refusal;
+use fields::{slices, text};
 use lasfile::vlr::{DESCRIPTION, FRONT, RECORD_ID, USER_ID};
 use lasfile::{header, vlr};
 
@@ -27,12 +29,6 @@ pub struct VlrCursor {
     pub position: usize,
 }
 
-#[derive(Clone, Copy)]
-pub enum Step {
-    Record(RecordPlaces, VlrCursor),
-    Refused(u64),
-}
-
 fn places_at(file: &[u8], at: usize) -> RecordPlaces
     requires { at + 54 < 2 ^ 64 }
     ensures { result ≡ record_places file.now at }
@@ -49,37 +45,32 @@ fn places_at(file: &[u8], at: usize) -> RecordPlaces
 }
 
 impl VlrCursor {
-    // The record at the cursor and the next cursor, or a file check's number, or 18.
-    pub fn step(self, file: &[u8]) -> Step
-        ensures { result ≡ step_of file.now self.index self.position }
+    // The record at the cursor and the next cursor; else a file check, or 18.
+    pub fn step(self, file: &[u8]) -> Result<(RecordPlaces, VlrCursor), Refusal>
+        ensures { by_number (λ x. Record x.0 x.1) Refused result ≡ step_of file.now self.index self.position }
     {
-        let verdict = lasfile::check_file(file);
-        if let Verdict::Fails(n) = verdict {
-            return Step::Refused(n);
-        }
+        lasfile::check_file(file)?;
         let index = self.index;
         let position = self.position;
         if header::record_count(file) <= index {
-            return Step::Refused(Refusal::NoRecord);
+            return Err(Refusal::NoRecord);
         }
         if position < header::header_size(file) {
-            return Step::Refused(Refusal::NoRecord);
+            return Err(Refusal::NoRecord);
         }
         if !fits_in(
             header::point_offset(file),
             position,
             vlr::size_at(file, position),
         ) {
-            return Step::Refused(Refusal::NoRecord);
+            return Err(Refusal::NoRecord);
         }
         let places = places_at(file, position);
         let next = places.payload_place + places.payload_length;
-        Step::Record(
-            places,
-            VlrCursor {
-                index: index + 1,
-                position: next,
-            },
-        )
+        let behind = VlrCursor {
+            index: index + 1,
+            position: next,
+        };
+        Ok((places, behind))
     }
 }

@@ -1,11 +1,13 @@
 // The public header block.
 ghost use Rattle.std.specs.Prelude.{◌≡◌, length};
 ghost use Rattle.fields.specs.Bytes.{part};
+ghost use Rattle.fields.specs.Refusals.{by_number};
 ghost use Rattle.fields.specs.Text.{cut};
-ghost use Rattle.reader.specs.Header.{identity_of, creation_of, file_layout_of, by_return_of, stated_bounds, header_of, header_read};
+ghost use Rattle.reader.specs.Header.{Fields, Refused, identity_of, creation_of, file_layout_of, by_return_of, stated_bounds, header_of, header_read};
 
 use fields::numbers::number_at;
-use fields::{Verdict, slices, text};
+use fields::refusal::Refusal;
+use fields::{slices, text};
 use lasfile::header;
 use scaling::{Bounds, Scaling};
 
@@ -61,12 +63,6 @@ pub struct Header {
     pub by_return: ByReturn,
     pub scaling: Scaling,
     pub bounds: Bounds,
-}
-
-#[derive(Clone, Copy)]
-pub enum HeaderRead {
-    Fields(Header),
-    Refused(u64),
 }
 
 fn identity_of(file: &[u8]) -> Identity
@@ -153,12 +149,11 @@ fn header_of(file: &[u8]) -> Header
     }
 }
 
-// Every field of a file's header, or the number of the first file check that fails.
-pub fn read_header(file: &[u8]) -> HeaderRead
-    ensures { result ≡ header_read file.now }
+// Every field of a file's header, or the first file check that fails.
+#[tactic(auto, unfolding(crate::specs::Header::header_read, crate::specs::Header::header_if))]
+pub fn read_header(file: &[u8]) -> Result<Header, Refusal>
+    ensures { by_number Fields Refused result ≡ header_read file.now }
 {
-    if let Verdict::Fails(n) = lasfile::check_file(file) {
-        return HeaderRead::Refused(n);
-    }
-    HeaderRead::Fields(header_of(file))
+    lasfile::check_file(file)?;
+    Ok(header_of(file))
 }

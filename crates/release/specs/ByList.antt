@@ -7,13 +7,10 @@ use Rattle.fields.specs.Checks.{Passes}
 use Rattle.lasfile.specs.HeaderFields.{format, record_length}
 use Rattle.lasfile.specs.FileChecks.{file_verdict}
 use Rattle.publicpart.specs.Public.{public_of}
-use Rattle.publicpart.specs.Release.{room_or}
-use Rattle.publicpart.specs.Cutting.{kept_together, cutting_list, release_by_list}
+use Rattle.publicpart.specs.Release.{room_or, Answer, Released, Short, Refused}
+use Rattle.publicpart.specs.Cutting.{kept_together, cutting_list, release_by_list, Listed}
 use Rattle.publicpart.specs.declared.Span.{Span}
-use Rattle.publicpart.specs.declared.Answer.{Answer}
-use Rattle.publicpart.specs.declared.Answer.TheVariants.{Released, Short, Refused}
-use Rattle.publicpart.specs.declared.Listed.{Listed}
-use Rattle.publicpart.specs.declared.Listed.TheVariants as listed
+use Rattle.publicpart.specs.Cutting as listed
 use Rattle.points.specs.Raw.{points_of}
 use Rattle.tally.specs.Tally.{tally_of}
 use Rattle.release.specs.Assembly.{totals_of}

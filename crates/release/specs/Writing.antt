@@ -7,8 +7,7 @@ use Rattle.lasfile.specs.Records.{record_bytes}
 use Rattle.lasfile.specs.HeaderFields.{header_block}
 use Rattle.publicpart.specs.Cutting.{named, record_named}
 use Rattle.publicpart.specs.declared.Span.{Span}
-use Rattle.publicpart.specs.declared.Answer.{Answer}
-use Rattle.publicpart.specs.declared.Answer.TheVariants.{Released, Short, Refused}
+use Rattle.publicpart.specs.Release.{Answer, Released, Short, Refused}
 use Rattle.release.specs.declared.writing.Writing.{Writing}
 
 -- ---- what the lines of a list name

@@ -6,10 +6,8 @@ use native.Mathlib.Nat.{not-suc-le-zero}
 use native.Mathlib.Omega.{arith}
 use mathlib.Core.List.{[], ◌∷◌, ◌++◌}
 use lib.ListN.{length, take-append-drop}
-use Rattle.fields.specs.Checks.{Verdict}
-use Rattle.fields.specs.Checks.{Passes, Fails}
+use Rattle.fields.specs.Checks.{Verdict, Passes, Fails, first_failing, then}
 use Rattle.fields.specs.Bytes.{Bytes}
-use Rattle.fields.specs.Checks.{first_failing, then}
 use Rattle.sheet.specs.Sheet.{line_length, kind, first_line, after_line, lines_from, lines, line_checks, lines_verdict, sheet_verdict}
 
 pub first_after : (s : Bytes) → first_line s ++ after_line s ≡ s

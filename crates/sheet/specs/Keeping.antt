@@ -7,12 +7,9 @@ use Rattle.fields.specs.Bytes.{Bytes, same}
 use Rattle.points.specs.Raw.{class_in, withheld_in, class_byte, class_of, withheld_of, stored}
 use Rattle.fields.specs.Text.{cut}
 use Rattle.sheet.specs.Sheet.{kind, lowest, highest, user_id, record_id, low, high, on_every_axis, lines, sheet_verdict}
-use Rattle.fields.specs.Checks.{Verdict}
-use Rattle.fields.specs.Checks.{Passes, Fails}
-use Rattle.sheet.specs.declared.answers.Kept.{Kept}
-use Rattle.sheet.specs.declared.answers.Kept.TheVariants.{Yes, No, Refused}
-use Rattle.sheet.specs.declared.answers.Tested.{Tested}
-use Rattle.sheet.specs.declared.answers.Tested.TheVariants as tested
+use Rattle.fields.specs.Checks.{Verdict, Passes, Fails}
+use Rattle.sheet.specs.Tests.{Tested}
+use Rattle.sheet.specs.Tests as tested
 use Rattle.sheet.specs.declared.lookup.Searched.{Searched}
 use Rattle.sheet.specs.declared.lookup.Sought.{Sought}
 use Rattle.sheet.specs.declared.lookup.Sought.TheVariants.{Class, Record}
@@ -58,6 +55,17 @@ unfoldable pub keeps_record : Bytes → Bytes → ℕ → Bool
 keeps_record sheet user id = any_of (λ l. names_record l user id) (lines sheet)
 
 -- ---- the answer, the sheet's checks first
+
+-- what a sheet says of a class or a record; its number, where the sheet fails
+pub data Kept : Type 0 where
+  Yes : Kept
+  No : Kept
+  Refused : ℕ → Kept
+
+-- yes or no
+abbrev pub kept_by : Bool → Kept
+kept_by true = Yes
+kept_by false = No
 
 -- the answer under a sheet: its number where a check fails, else whether something is kept
 unfoldable pub kept_under : Verdict → Bool → Kept

@@ -1,3 +1,4 @@
 pub mod Sheet
+pub mod Tests
 pub mod Keeping
 pub mod Boxes

@@ -4,11 +4,9 @@ use Rattle.std.specs.Prelude.{ℕ, zero, suc, ◌+◌, ◌*◌, Bool, not, ◌&&
 use Rattle.std.specs.Int.Signed.{le_z}
 use Rattle.std.specs.Int.{w32}
 use Rattle.std.proofs.Common.{to_z}
-use Rattle.fields.specs.Checks.{Verdict}
-use Rattle.fields.specs.Checks.{Passes, Fails}
+use Rattle.fields.specs.Checks.{Verdict, Passes, Fails, Check, ◌below◌, ◌differs_from◌, not_so, first_failing, then}
 use Rattle.fields.specs.Bytes.{Bytes, part, num}
 use Rattle.fields.specs.Text.{cut}
-use Rattle.fields.specs.Checks.{Check, ◌below◌, ◌differs_from◌, not_so, first_failing, then}
 
 -- ---- a line: the bytes 4B 53, a kind byte, and what the kind has
 

@@ -9,10 +9,12 @@ pub mod lookup;
 ghost use Rattle.std.specs.Prelude.{◌≡◌, [], ◌∷◌, drop, ◌<◌};
 ghost use Rattle.fields.specs.Bytes.{part, same};
 ghost use Rattle.fields.specs.Checks.{first_failing};
+ghost use Rattle.fields.specs.Refusals.{verdict_of};
 ghost use Rattle.std.specs.Int.Signed.{le_z};
 ghost use Rattle.sheet.specs.Sheet.{kind, line_length, edge, low, high, box_in_order, first_line, after_line, in_order, line_checks, sheet_verdict};
 
-use fields::{refusals, signed, slices};
+use fields::refusal::Refusal;
+use fields::{signed, slices};
 
 // The places of a line's fields: its kind, the classes of a kind 1 line, and the six numbers of a kind 3 line.
 pub(crate) const KIND: usize = 2;
@@ -96,54 +98,51 @@ fn marked(rest: &[u8]) -> bool
 }
 
 // Checks a line behind its mark: its kind, its length, and that no low is above its high.
-fn check_body(rest: &[u8]) -> fields::Verdict
-    ensures { result ≡ first_failing (drop 2 (line_checks rest.now)) }
+fn check_body(rest: &[u8]) -> Result<(), Refusal>
+    ensures { verdict_of result ≡ first_failing (drop 2 (line_checks rest.now)) }
 {
     let length = line_length(rest);
     if length < 1 {
-        return fields::Verdict::Fails(Refusal::BadKind);
+        return Err(Refusal::BadKind);
     }
     if rest.len() < length {
-        return fields::Verdict::Fails(Refusal::LineCut);
+        return Err(Refusal::LineCut);
     }
     if in_order(rest) {
-        fields::Verdict::Passes
+        Ok(())
     } else {
-        fields::Verdict::Fails(Refusal::LowAboveHigh)
+        Err(Refusal::LowAboveHigh)
     }
 }
 
 // Checks the line that bytes begin with.
-fn check_line(rest: &[u8]) -> fields::Verdict
-    ensures { result ≡ first_failing (line_checks rest.now) }
+fn check_line(rest: &[u8]) -> Result<(), Refusal>
+    ensures { verdict_of result ≡ first_failing (line_checks rest.now) }
 {
     if rest.len() < 3 {
-        return fields::Verdict::Fails(Refusal::LineCut);
+        return Err(Refusal::LineCut);
     }
     if marked(rest) {
         check_body(rest)
     } else {
-        fields::Verdict::Fails(Refusal::BadMark)
+        Err(Refusal::BadMark)
     }
 }
 
 // The first check of a sheet that fails, line by line.
-pub fn check_sheet(sheet: &[u8]) -> fields::Verdict
-    ensures { result ≡ sheet_verdict sheet.now }
+pub fn check_sheet(sheet: &[u8]) -> Result<(), Refusal>
+    ensures { verdict_of result ≡ sheet_verdict sheet.now }
 {
     let mut rest = sheet;
     let mut left = MOST_LINES;
     while 0 < rest.len() {
         if left == 0 {
-            return fields::Verdict::Fails(Refusal::TooManyLines);
+            return Err(Refusal::TooManyLines);
         }
-        let verdict = check_line(rest);
-        if let fields::Verdict::Fails(_) = verdict {
-            return verdict;
-        }
+        check_line(rest)?;
         let next = after_line(rest);
         rest = next;
         left -= 1;
     }
-    fields::Verdict::Passes
+    Ok(())
 }

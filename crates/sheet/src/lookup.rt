@@ -14,10 +14,10 @@ enum Sought {
 }
 
 // What a search comes to: whether a line keeps what is looked for, and how many lines were looked at.
-#[derive(Clone, Copy)]
-pub(crate) struct Searched {
-    pub(crate) found: bool,
-    pub(crate) lines: u8,
+#[derive(Clone, Copy, Debug, PartialEq, Eq)]
+pub struct Searched {
+    pub found: bool,
+    pub lines: u8,
 }
 
 // The places of a kind 2 line's fields.

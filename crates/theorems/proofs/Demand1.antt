@@ -12,9 +12,7 @@ use lib.ListN.{length, replicate}
 use lib.Dec.{eqb, ltb, leb}
 use Rattle.fields.specs.Lists.{kept, cons_if}
 use Rattle.fields.specs.Bytes.{Bytes}
-use Rattle.fields.specs.Checks.{Check, ◌below◌, fails, fail_if, first_failing, then, number_of}
-use Rattle.fields.specs.Checks.{Verdict}
-use Rattle.fields.specs.Checks.{Passes, Fails}
+use Rattle.fields.specs.Checks.{Check, ◌below◌, fails, fail_if, first_failing, then, number_of, Verdict, Passes, Fails}
 use Rattle.fields.proofs.CheckLaws.{first_fails, Without, never_given}
 use Rattle.points.specs.Points as points
 use Rattle.points.specs.Encoding as encoding
@@ -22,36 +20,31 @@ use Rattle.points.specs.declared.Point.{Point}
 use Rattle.lasfile.specs.FileChecks.{file_checks, file_verdict, mend_checks, mend_verdict}
 use Rattle.reader.specs.Header as header
 use Rattle.reader.specs.declared.header.Header.{Header}
-use Rattle.reader.specs.Steps.{step_checks, record_if, step_of}
+use Rattle.reader.specs.Steps.{step_checks, record_if, step_of, Step}
 use Rattle.reader.specs.declared.cursor.RecordPlaces.{RecordPlaces}
 use Rattle.reader.specs.declared.cursor.VlrCursor.{VlrCursor}
-use Rattle.reader.specs.OnePoint.{point_checks, point_if, point_at_of}
+use Rattle.reader.specs.OnePoint.{point_checks, point_if, point_at_of, PointAt}
 use Rattle.sheet.specs.Sheet.{line_checks, after_line, lines_verdict, sheet_verdict}
-use Rattle.sheet.specs.Keeping.{kept_under, keeps_class, keeps_record, lines_for, tested_under}
-use Rattle.geokeys.specs.GeoKeys.{entry_of, from_entry, searched, search_verdict, lookup}
+use Rattle.sheet.specs.Keeping.{kept_under, keeps_class, keeps_record, lines_for, tested_under, Kept}
+use Rattle.geokeys.specs.GeoKeys.{entry_of, from_entry, searched, search_verdict, lookup, GeoKey}
 use Rattle.geokeys.specs.Halving.{Halved, halve, key_read, read_if, lookup_by_halving}
 use Rattle.geokeys.proofs.KeyReadLaws.{found_is}
-use Rattle.geokeys.specs.declared.GeoKey.{GeoKey}
-use Rattle.geokeys.specs.declared.GeoKey.TheVariants as key
-use Rattle.points.specs.declared.Decoded.{Decoded}
-use Rattle.points.specs.declared.Decoded.TheVariants as point
-use Rattle.reader.specs.declared.header.HeaderRead.{HeaderRead}
-use Rattle.reader.specs.declared.header.HeaderRead.TheVariants as read
-use Rattle.reader.specs.declared.cursor.Step.{Step}
-use Rattle.reader.specs.declared.cursor.Step.TheVariants as step
-use Rattle.reader.specs.declared.point.PointAt.{PointAt}
-use Rattle.reader.specs.declared.point.PointAt.TheVariants as place
-use Rattle.sheet.specs.declared.answers.Kept.{Kept}
-use Rattle.sheet.specs.declared.answers.Kept.TheVariants as sheet_kept
-use Rattle.sheet.specs.declared.answers.Tested.{Tested}
-use Rattle.sheet.specs.declared.answers.Tested.TheVariants as tested
+use Rattle.geokeys.specs.GeoKeys as key
+use Rattle.points.specs.Points.{Decoded}
+use Rattle.points.specs.Points as point
+use Rattle.reader.specs.Header.{HeaderRead}
+use Rattle.reader.specs.Header as read
+use Rattle.reader.specs.Steps as step
+use Rattle.reader.specs.OnePoint as place
+use Rattle.sheet.specs.Keeping as sheet_kept
+use Rattle.sheet.specs.Tests.{Tested}
+use Rattle.sheet.specs.Tests as tested
 use Rattle.fields.specs.Text.{cut}
 use Rattle.publicpart.specs.Public.{public_of}
 use Rattle.publicpart.specs.Release.{Outcome, refuse_or, short_or, accepted, room_or, release}
 use Rattle.publicpart.specs.declared.Span.{Span}
-use Rattle.publicpart.specs.declared.Listed.{Listed}
-use Rattle.publicpart.specs.declared.Listed.TheVariants as listed
-use Rattle.publicpart.specs.Cutting.{cutting_lines, list_verdict, list_under, cutting_list, fill_unless, by_list_under, release_by_list}
+use Rattle.publicpart.specs.Cutting.{Listed, cutting_lines, list_verdict, list_under, cutting_list, fill_unless, by_list_under, release_by_list}
+use Rattle.publicpart.specs.Cutting as listed
 use Rattle.publicpart.proofs.CuttingLaws.{by_list_is}
 use Rattle.editor.specs.Mend.{mend_by, mend}
 use Rattle.capi.specs.Answers.{released_numbers, listed_numbers, kept_numbers, tested_numbers, mark_numbers, mended_numbers}

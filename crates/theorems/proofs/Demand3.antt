@@ -10,9 +10,8 @@ use Rattle.fields.specs.Checks.{Passes}
 use Rattle.sheet.specs.Sheet.{sheet_verdict}
 use Rattle.publicpart.specs.Public.{Public, public_of}
 use Rattle.publicpart.specs.Render.{render}
-use Rattle.publicpart.specs.Release.{Outcome, release}
+use Rattle.publicpart.specs.Release.{Outcome, release, Short}
 use Rattle.capi.specs.Answers.{released_numbers}
-use Rattle.publicpart.specs.declared.Answer.TheVariants.{Short}
 use Rattle.theorems.specs.Terms.{Good, needed, refusal, Accepted, OfOutput}
 use Rattle.theorems.specs.Demand3.{in_length, Demand3}
 use Rattle.publicpart.proofs.AnswerLaws.{release_long, release_short}

@@ -15,12 +15,10 @@ use lib.Ieee.{binary64, of_int, fin}
 use lib.Ieee.Fits.{and_l, and_r}
 use Rattle.fields.specs.Lists.{All, kept, total}
 use Rattle.fields.specs.Bytes.{Bytes, AllBytes, part, num, zeros}
-use Rattle.fields.specs.Checks.{number_of}
-use Rattle.fields.specs.Checks.{Passes, Fails}
+use Rattle.fields.specs.Checks.{number_of, Passes, Fails}
 use Rattle.points.specs.Encoding.{InRange, large, encode_checks, stored_if, encoded}
-use Rattle.points.specs.declared.Decoded.TheVariants.{Fields}
+use Rattle.points.specs.Points.{Fields, decoded}
 use Rattle.points.specs.Formats.{format_size}
-use Rattle.points.specs.Points.{decoded}
 use Rattle.points.specs.Raw.{class_of, synthetic_of, key_point_of, withheld_of, return_of}
 use Rattle.scaling.specs.Scaling.{coordinate_of, scaling_of, good_scaling}
 use Rattle.lasfile.specs.Inputs.{input_checks}
@@ -35,11 +33,11 @@ use Rattle.reader.specs.Header.{header_read}
 use Rattle.reader.specs.Steps.{record_if, step_of}
 use Rattle.reader.specs.OnePoint.{point_if, point_at_of}
 use Rattle.sheet.specs.Keeping.{kept_under, keeps_class, keeps_place, keeps_record, contains_class, unless, up_to_first, lines_for, tested_under, class_test}
-use Rattle.sheet.specs.declared.answers.Tested.TheVariants as tested
+use Rattle.sheet.specs.Tests as tested
 use Rattle.fields.specs.Text.{cut}
 use Rattle.geokeys.specs.GeoKeys.{first, or_later, is_projection, projection_place, answer_if, payload_in, directory_of, directory_verdict, search_verdict, lookup}
 use Rattle.capi.specs.Answers.{listed_numbers, kept_numbers, tested_numbers, mended_numbers}
-use Rattle.publicpart.specs.declared.Listed.TheVariants as listed
+use Rattle.publicpart.specs.Cutting as listed
 use Rattle.publicpart.specs.Cutting.{named, payload_line, payload_lines, strides, piece_lines, record_lines, point_lines, cutting_lines, fill, list_verdict, list_under, cutting_list, record_named, public_by, fill_unless, by_list_under, release_by_list}
 use Rattle.lasfile.specs.FileChecks.{file_verdict, mend_verdict}
 use Rattle.editor.specs.Mend.{whole_records, mended_count, mended_points, mended, changed, marks, mend_by, mend}

@@ -9,7 +9,7 @@ use lib.Dec.{lit≤, lit<}
 use lib.ListN.{length}
 use Rattle.fields.specs.Bytes.{zeros}
 use Rattle.publicpart.specs.Public.{public_of}
-use Rattle.publicpart.specs.declared.Answer.TheVariants.{Released}
+use Rattle.publicpart.specs.Release.{Released}
 use Rattle.publicpart.specs.Cutting.{span, cutting_lines, fill}
 use Rattle.theorems.specs.Terms.{enough}
 use Rattle.theorems.specs.Demand3.{Same}

@@ -13,9 +13,7 @@ use lib.Dec.{lit<}
 use lib.ListN.{length, drop, get_or, replicate}
 use Rattle.fields.specs.Lists.{All, kept, cons_if}
 use Rattle.fields.specs.Bytes.{Bytes, AllBytes, part, num, same, pieces, numbers_bytes}
-use Rattle.fields.specs.Checks.{number_of}
-use Rattle.fields.specs.Checks.{Verdict}
-use Rattle.fields.specs.Checks.{Passes, Fails}
+use Rattle.fields.specs.Checks.{number_of, Verdict, Passes, Fails}
 use Rattle.fields.proofs.ByteLaws.{num-part_one, same→eq, same_self, mul-suc}
 use Rattle.fields.proofs.CheckLaws.{Without, never_given}
 use Rattle.fields.proofs.StoreLaws.{Apart}

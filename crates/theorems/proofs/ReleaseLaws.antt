@@ -13,9 +13,7 @@ use Rattle.lasfile.proofs.Passed.{passed, passes}
 use Rattle.sheet.specs.Sheet.{sheet_verdict}
 use Rattle.publicpart.specs.Public.{contents, public_of}
 use Rattle.publicpart.specs.Render.{render}
-use Rattle.publicpart.specs.declared.Answer.{Answer}
-use Rattle.publicpart.specs.declared.Answer.TheVariants.{Released}
-use Rattle.publicpart.specs.Release.{Outcome, release}
+use Rattle.publicpart.specs.Release.{Answer, Released, Outcome, release}
 use Rattle.publicpart.proofs.AnswerLaws.{release_long, Taken, release_taken}
 use Rattle.publicpart.proofs.PublicLaws.{public_again}
 use Rattle.publicpart.proofs.Sound.{Sound, sound_public}

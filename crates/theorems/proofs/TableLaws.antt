@@ -7,9 +7,7 @@ use mathlib.Core.Bool.{Bool, true, false, not}
 use mathlib.Core.List.{List, [], ◌∷◌, ◌++◌}
 use lib.Dec.{T, eqb}
 use borrow.Author.Tests.{ne_eqb}
-use Rattle.fields.specs.Checks.{Test, Clear, Check, fails, fail_if, first_failing, then, number_of}
-use Rattle.fields.specs.Checks.{Verdict}
-use Rattle.fields.specs.Checks.{Passes, Fails}
+use Rattle.fields.specs.Checks.{Test, Clear, Check, fails, fail_if, first_failing, then, number_of, Verdict, Passes, Fails}
 use Rattle.fields.proofs.CheckLaws.{clear, unclear, none_fails, all_clear, gives, Numbers, both_numbers, Without}
 use Rattle.theorems.specs.Tables.{Given, ByTable}
 use Rattle.theorems.specs.Demand1.{TableLaws}

@@ -8,8 +8,7 @@ use Rattle.lasfile.specs.FileChecks.{file_verdict}
 use Rattle.sheet.specs.Sheet.{sheet_verdict}
 use Rattle.publicpart.specs.Public.{public_of}
 use Rattle.publicpart.specs.declared.Span.{Span}
-use Rattle.publicpart.specs.declared.Answer.TheVariants.{Released}
-use Rattle.publicpart.specs.Release.{Outcome, release}
+use Rattle.publicpart.specs.Release.{Released, Outcome, release}
 use Rattle.publicpart.specs.Cutting.{cutting_lines, fill, release_by_list}
 use Rattle.capi.specs.Answers.{released_numbers}
 use Rattle.theorems.specs.Terms.{Good, needed, enough, refusal}

@@ -6,11 +6,9 @@ use Rattle.fields.specs.Checks.{Passes, Fails}
 use Rattle.fields.specs.Lists.{All}
 use Rattle.fields.specs.Bytes.{Bytes}
 use Rattle.sheet.specs.Sheet.{kind, lines, sheet_verdict}
-use Rattle.sheet.specs.Keeping.{contains_class, class_kept, lines_for, class_test}
-use Rattle.sheet.specs.declared.answers.Kept.{Kept}
-use Rattle.sheet.specs.declared.answers.Kept.TheVariants as kept
-use Rattle.sheet.specs.declared.answers.Tested.{Tested}
-use Rattle.sheet.specs.declared.answers.Tested.TheVariants.{Held, NotHeld, Refused}
+use Rattle.sheet.specs.Keeping.{contains_class, class_kept, lines_for, class_test, Kept}
+use Rattle.sheet.specs.Keeping as kept
+use Rattle.sheet.specs.Tests.{Tested, Held, NotHeld, Refused}
 use Rattle.capi.specs.Interface.{las_class_kept, las_class_test}
 use Rattle.theorems.specs.Sheets.{SomeLine}
 

@@ -4,8 +4,7 @@
 -- Assumes nothing.
 use Rattle.std.specs.Prelude.{◌≡◌, ◌↔◌, ℕ, suc, false, List, ◌++◌, replicate}
 use Rattle.fields.specs.Bytes.{Bytes}
-use Rattle.fields.specs.Checks.{Check, first_failing, AllClear}
-use Rattle.fields.specs.Checks.{Passes, Fails}
+use Rattle.fields.specs.Checks.{Check, first_failing, AllClear, Passes, Fails}
 use Rattle.points.specs.declared.Point.{Point}
 use Rattle.points.specs.Points.{decode_checks}
 use Rattle.points.specs.Encoding.{encode_checks, encoded}
@@ -17,8 +16,7 @@ use Rattle.geokeys.specs.GeoKeys.{searched}
 use Rattle.geokeys.specs.Halving.{halve}
 use Rattle.publicpart.specs.Release.{release}
 use Rattle.publicpart.specs.declared.Span.{Span}
-use Rattle.publicpart.specs.declared.Listed.TheVariants.{Refused}
-use Rattle.publicpart.specs.Cutting.{cutting_list, release_by_list}
+use Rattle.publicpart.specs.Cutting.{Refused, cutting_list, release_by_list}
 use Rattle.editor.specs.Mend.{mend}
 use Rattle.capi.specs.HeaderAnswers.{no_header}
 use Rattle.capi.specs.RecordAnswers.{no_record}

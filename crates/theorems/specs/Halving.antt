@@ -6,9 +6,8 @@ use Rattle.std.proofs.Math.Option.{none, some}
 use Rattle.fields.specs.Bytes.{Bytes, AllBytes}
 use Rattle.fields.specs.Lists.{All}
 use Rattle.fields.specs.Checks.{Passes, Fails}
-use Rattle.geokeys.specs.GeoKeys.{key_of, entry_of, searched, search_verdict, lookup}
+use Rattle.geokeys.specs.GeoKeys.{key_of, entry_of, searched, search_verdict, lookup, Refused}
 use Rattle.geokeys.specs.Halving.{halve, lookup_by_halving}
-use Rattle.geokeys.specs.declared.GeoKey.TheVariants.{Refused}
 use Rattle.capi.specs.Interface.{las_geokey_find, las_geokey_halve}
 use Rattle.capi.specs.declared.vlr.las_geokey.{las_geokey}
 use Rattle.capi.specs.declared.vlr.las_geokey_read.{las_geokey_read}

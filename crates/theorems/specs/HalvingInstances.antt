@@ -6,9 +6,8 @@ use Rattle.std.proofs.Math.Option.{some}
 use Rattle.fields.specs.Bytes.{Bytes, bytes_of, zeros, join}
 use Rattle.lasfile.specs.HeaderFields.{signature, version}
 use Rattle.lasfile.specs.FileChecks.{file_checks}
-use Rattle.geokeys.specs.GeoKeys.{projection, entry_of, searched, lookup}
+use Rattle.geokeys.specs.GeoKeys.{projection, entry_of, searched, lookup, Value, Refused}
 use Rattle.geokeys.specs.Halving.{halve, lookup_by_halving}
-use Rattle.geokeys.specs.declared.GeoKey.TheVariants.{Value, Refused}
 use Rattle.capi.specs.Interface.{las_geokey_find, las_geokey_halve}
 use Rattle.theorems.specs.Tables.{Given, halving_checks}
 use Rattle.theorems.specs.Halving.{Middle, HasKey}

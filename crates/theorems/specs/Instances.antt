@@ -7,25 +7,22 @@ use Rattle.std.specs.Float.Ieee.{le, of_int}
 use Rattle.std.specs.Float.Ieee.Scale.{finite}
 use Rattle.fields.specs.Lists.{All}
 use Rattle.fields.specs.Bytes.{Bytes, part, num, zeros, join}
-use Rattle.fields.specs.Checks.{AllClear}
+use Rattle.fields.specs.Checks.{AllClear, Passes, Fails}
 use Rattle.fields.specs.Text.{cut}
-use Rattle.fields.specs.Checks.{Passes, Fails}
 use Rattle.points.specs.declared.Point.{Point}
-use Rattle.points.specs.declared.Decoded.TheVariants.{Fields}
+use Rattle.points.specs.Points.{Fields, point_of, decode_checks, decoded}
 use Rattle.points.specs.Raw.{class_byte, class_of, withheld_of}
-use Rattle.points.specs.Points.{point_of, decode_checks, decoded}
 use Rattle.points.specs.Encoding.{encode_checks, encoded, blank}
 use Rattle.scaling.specs.Scaling.{coordinate_of, scaling_of}
 use Rattle.lasfile.specs.Inputs.{input_checks}
 use Rattle.lasfile.specs.FileChecks.{file_checks, file_verdict, mend_checks}
 use Rattle.lasfile.specs.Passed.{Passed}
 use Rattle.lasfile.specs.Records.{Record, walk, walk_end, records_bytes}
-use Rattle.reader.specs.Steps.{step_checks, record_places, step_of, visited}
-use Rattle.reader.specs.declared.cursor.Step.TheVariants.{Refused}
+use Rattle.reader.specs.Steps.{step_checks, record_places, step_of, visited, Refused}
 use Rattle.reader.specs.OnePoint.{point_checks}
 use Rattle.sheet.specs.Sheet.{kind, lowest, highest, user_id, record_id, lines}
 use Rattle.sheet.specs.Keeping.{contains_class, keeps_point, keeps_record, lines_for, class_test}
-use Rattle.sheet.specs.declared.answers.Tested.TheVariants as tested
+use Rattle.sheet.specs.Tests as tested
 use Rattle.lasfile.specs.HeaderFields.{format, point_count}
 use Rattle.publicpart.specs.Public.{contents, public_of}
 use Rattle.publicpart.specs.Release.{release}

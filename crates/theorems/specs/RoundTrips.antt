@@ -6,8 +6,7 @@ use Rattle.fields.specs.Bytes.{Bytes, AllBytes}
 use Rattle.fields.specs.Checks.{Passes}
 use Rattle.points.specs.Formats.{format_size}
 use Rattle.points.specs.declared.Point.{Point}
-use Rattle.points.specs.declared.Decoded.TheVariants.{Fields}
-use Rattle.points.specs.Points.{decoded}
+use Rattle.points.specs.Points.{Fields, decoded}
 use Rattle.points.specs.Encoding.{encoded, blank, InRange}
 
 pub record RoundTrips : Type 0 where

@@ -8,9 +8,7 @@ use mir.Val.{bool_byte}
 use Rattle.fields.specs.Lists.{All, kept}
 use Rattle.fields.specs.Bytes.{Bytes, part, bytes_of, zeros, join}
 use Rattle.fields.specs.Checks.{number_of}
-use Rattle.points.specs.declared.Decoded.{Decoded}
-use Rattle.points.specs.declared.Decoded.TheVariants.{Fields, Refused}
-use Rattle.points.specs.Points.{decoded}
+use Rattle.points.specs.Points.{Decoded, Fields, Refused, decoded}
 use Rattle.scaling.specs.Scaling.{coordinate_bits}
 use Rattle.lasfile.specs.HeaderFields.{signature, version, point_offset}
 use Rattle.lasfile.specs.FileChecks.{file_verdict}

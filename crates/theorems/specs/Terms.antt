@@ -8,8 +8,7 @@ use Rattle.lasfile.specs.FileChecks.{file_verdict}
 use Rattle.publicpart.specs.Public.{public_of}
 use Rattle.publicpart.specs.Render.{render}
 use Rattle.publicpart.specs.Cutting.{kept_together}
-use Rattle.publicpart.specs.declared.Answer.TheVariants.{Released}
-use Rattle.publicpart.specs.Release.{release}
+use Rattle.publicpart.specs.Release.{Released, release}
 use Rattle.capi.specs.declared.answers.las_released.{las_released}
 use Rattle.capi.specs.declared.vlr.las_geokey_read.{las_geokey_read}
 

@@ -6,10 +6,9 @@ use Rattle.fields.specs.Checks.{Passes}
 use Rattle.lasfile.specs.Records.{record_at, places}
 use Rattle.lasfile.specs.HeaderFields.{header_size, record_count}
 use Rattle.lasfile.specs.FileChecks.{file_verdict}
-use Rattle.reader.specs.Steps.{record_places, step_of, visited}
+use Rattle.reader.specs.Steps.{record_places, step_of, visited, Refused}
 use Rattle.reader.specs.declared.cursor.RecordPlaces.{RecordPlaces}
 use Rattle.reader.specs.declared.cursor.VlrCursor.{VlrCursor}
-use Rattle.reader.specs.declared.cursor.Step.TheVariants.{Refused}
 
 abbrev pub cursor : ℕ → ℕ → VlrCursor
 cursor index position = record { index = index; position = position }

@@ -3,33 +3,26 @@
 use Rattle.std.specs.Prelude.{◌≡◌, ℕ, Bool, true, false, List, eqb}
 use Rattle.fields.specs.Bytes.{Bytes}
 use Rattle.fields.specs.Checks.{Verdict}
-use Rattle.fields.specs.declared.Verdict.TheVariants as verdict
-use Rattle.points.specs.Points.{decoded}
+use Rattle.fields.specs.Checks as verdict
+use Rattle.points.specs.Points.{decoded, Decoded}
 use Rattle.points.specs.Encoding.{encoded}
-use Rattle.points.specs.declared.Decoded.{Decoded}
-use Rattle.points.specs.declared.Decoded.TheVariants as point
+use Rattle.points.specs.Points as point
 use Rattle.lasfile.specs.FileChecks.{file_verdict}
-use Rattle.reader.specs.Header.{header_read}
-use Rattle.reader.specs.declared.header.HeaderRead.{HeaderRead}
-use Rattle.reader.specs.declared.header.HeaderRead.TheVariants as header
-use Rattle.reader.specs.Steps.{step_of}
-use Rattle.reader.specs.declared.cursor.Step.{Step}
-use Rattle.reader.specs.declared.cursor.Step.TheVariants as step
-use Rattle.reader.specs.OnePoint.{point_at_of}
-use Rattle.reader.specs.declared.point.PointAt.{PointAt}
-use Rattle.reader.specs.declared.point.PointAt.TheVariants as place
+use Rattle.reader.specs.Header.{header_read, HeaderRead}
+use Rattle.reader.specs.Header as header
+use Rattle.reader.specs.Steps.{step_of, Step}
+use Rattle.reader.specs.Steps as step
+use Rattle.reader.specs.OnePoint.{point_at_of, PointAt}
+use Rattle.reader.specs.OnePoint as place
 use Rattle.sheet.specs.Sheet.{sheet_verdict}
-use Rattle.geokeys.specs.GeoKeys.{lookup}
+use Rattle.geokeys.specs.GeoKeys.{lookup, GeoKey}
 use Rattle.geokeys.specs.Halving.{lookup_by_halving}
-use Rattle.geokeys.specs.declared.GeoKey.{GeoKey}
-use Rattle.geokeys.specs.declared.GeoKey.TheVariants as key
-use Rattle.publicpart.specs.Release.{release}
-use Rattle.publicpart.specs.Cutting.{cutting_list, release_by_list}
+use Rattle.geokeys.specs.GeoKeys as key
+use Rattle.publicpart.specs.Release.{release, Answer}
+use Rattle.publicpart.specs.Cutting.{cutting_list, release_by_list, Listed}
 use Rattle.publicpart.specs.declared.Span.{Span}
-use Rattle.publicpart.specs.declared.Listed.{Listed}
-use Rattle.publicpart.specs.declared.Listed.TheVariants as listed
-use Rattle.publicpart.specs.declared.Answer.{Answer}
-use Rattle.publicpart.specs.declared.Answer.TheVariants as answer
+use Rattle.publicpart.specs.Cutting as listed
+use Rattle.publicpart.specs.Release as answer
 use Rattle.editor.specs.Mend.{mend}
 use Rattle.capi.specs.PointAnswers.{given_point}
 use Rattle.capi.specs.declared.point.las_point.{las_point}

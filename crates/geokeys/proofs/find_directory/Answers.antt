@@ -1,17 +1,19 @@
 -- `geokeys::find_directory` meets its contract. Assumes nothing.
 use mathlib.Core.Path.{◌≡◌, sym, ◌∙◌}
+use Rattle.std.proofs.Common.{rules}
 use native.Mathlib.Omega.{arith}
 use Rattle.fields.specs.Checks.{Passes}
 use Rattle.lasfile.specs.FileChecks.{file_verdict}
 use Rattle.geokeys.proofs.SearchLaws.{placed, nowhere, low_place, file_refused, no_directory, directory_at}
-use Rattle.geokeys.proofs.find_directory.Goals.{In_default}
+use Rattle.geokeys.proofs.find_directory.Goals.{In_ok-check_file}
 use Rattle.geokeys.proofs.find_directory.Goals as goal
 
-passed : (c : In_default) → file_verdict c.args.file.now ≡ Passes
-passed c = sym c.check_file-verdict.ensures ∙ c.in_default.is
+passed : (c : In_ok-check_file) → file_verdict c.args.file.now ≡ Passes
+passed c = sym c.in_ok-check_file.ensures
 
-pub returns-in-Fails : goal.returns-in-Fails
-returns-in-Fails c = file_refused _ _ (sym c.check_file-verdict.ensures ∙ c.in-Fails.is)
+pub returns-in_err-check_file : goal.returns-in_err-check_file
+returns-in_err-check_file c =
+    let refused = file_refused c.args.file.now _ (sym c.in_err-check_file.ensures) in search (rules, refused)
 
 pub find_projection-found-requires : goal.find_projection-found-requires
 find_projection-found-requires c = passed c
@@ -23,7 +25,7 @@ pub returns-in-At : goal.returns-in-At
 returns-in-At c =
     let searched = c.find_projection-found.ensures in
     let found = c.in-At.is in
-    directory_at _ (passed (goal.at.returns-in-At c).In_default) _ _ (low_place _ _ found searched.1) (placed _ _ _ searched.0 found) c.checked_at.ensures
+    directory_at _ (passed (goal.at.returns-in-At c).In_ok-check_file) _ _ (low_place _ _ found searched.1) (placed _ _ _ searched.0 found) c.checked_at.ensures
 
 pub returns-in-Nothing : goal.returns-in-Nothing
-returns-in-Nothing c = no_directory _ (passed (goal.at.returns-in-Nothing c).In_default) (nowhere _ _ c.find_projection-found.ensures.0 c.in-Nothing.is)
+returns-in-Nothing c = no_directory _ (passed (goal.at.returns-in-Nothing c).In_ok-check_file) (nowhere _ _ c.find_projection-found.ensures.0 c.in-Nothing.is)

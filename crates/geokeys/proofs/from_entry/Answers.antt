@@ -7,12 +7,9 @@ use native.Mathlib.Omega.{arith}
 use borrow.Author.Tests.{eq-eqb, ne_eqb}
 use lib.Dec.{T, eqb}
 use Rattle.fields.specs.Bytes.{Bytes}
-use Rattle.fields.specs.Checks.{first_failing}
-use Rattle.fields.specs.Checks.{Passes}
+use Rattle.fields.specs.Checks.{first_failing, Passes}
 use Rattle.fields.proofs.CheckLaws.{first_fails, first_clear, all_clear}
-use Rattle.geokeys.specs.GeoKeys.{projection_place, payload_at, location_of, count_of, offset_of, entry_checks, either, double_in, text_in, in_parameters, from_entry}
-use Rattle.geokeys.specs.declared.GeoKey.{GeoKey}
-use Rattle.geokeys.specs.declared.GeoKey.TheVariants.{Value, Refused}
+use Rattle.geokeys.specs.GeoKeys.{projection_place, payload_at, location_of, count_of, offset_of, entry_checks, either, double_in, text_in, in_parameters, from_entry, GeoKey, Value, Refused}
 use Rattle.geokeys.proofs.SearchLaws.{answer_passes, answer_fails, either_first, either_second, placed, nowhere, low_place}
 use borrow.Author.Rules.{rules}
 use Rattle.geokeys.proofs.from_entry.Goals.{After-number_at-count, Else-location-eq0, Else-not-location, Else-not-location-count}

@@ -7,9 +7,7 @@ use lib.ListN.{length}
 use lib.Dec.{eqb}
 use Rattle.fields.specs.Bytes.{Bytes, part, num}
 use Rattle.fields.proofs.CheckLaws.{first_fails, all_clear}
-use Rattle.geokeys.specs.GeoKeys.{location_of, count_of, offset_of, either, double_in, text_in, double_checks, text_checks}
-use Rattle.geokeys.specs.declared.GeoKey.{GeoKey}
-use Rattle.geokeys.specs.declared.GeoKey.TheVariants.{Double, Text, Refused}
+use Rattle.geokeys.specs.GeoKeys.{location_of, count_of, offset_of, either, double_in, text_in, double_checks, text_checks, GeoKey, Double, Text, Refused}
 use Rattle.geokeys.proofs.SearchLaws.{answer_passes, answer_fails, either_first, either_second}
 use Rattle.geokeys.proofs.in_payload.Goals as goal
 

@@ -1,20 +1,15 @@
 -- `lasfile::check_file` meets its contract: checks 1 to 7, and then the others. Assumes nothing.
-use mathlib.Core.Path.{sym, ◌∙◌}
-use Rattle.fields.proofs.CheckLaws.{then_passes, then_fails, in_parts}
+use Rattle.std.proofs.Common.{rules}
+use mathlib.Core.Path.{◌∙◌}
+use Rattle.fields.proofs.CheckLaws.{fails_in_front, passes_in_front}
 use Rattle.lasfile.specs.FileChecks.{file_checks, file_verdict}
 use Rattle.lasfile.proofs.check_file.Goals as goal
 
-pub returns-in-Passes : goal.returns-in-Passes
+pub returns-in_err-check_header : goal.returns-in_err-check_header
 unfolding file_verdict
-returns-in-Passes c =
-    let s = c.args.file.now in
-    c.check_contents.ensures
-    ∙ sym (then_passes _ _ (sym c.check_header-verdict.ensures ∙ c.in-Passes.is))
-    ∙ in_parts 7 (file_checks s)
+returns-in_err-check_header c =
+    let e = fails_in_front 7 (file_checks c.args.file.now) _ (c.in_err-check_header.ensures) in search (rules, e)
 
-pub returns-in-Fails : goal.returns-in-Fails
+pub returns : goal.returns
 unfolding file_verdict
-returns-in-Fails c =
-    let s = c.args.file.now in
-    let e = c.in-Fails.is in
-    e ∙ sym (then_fails _ _ _ (sym c.check_header-verdict.ensures ∙ e)) ∙ in_parts 7 (file_checks s)
+returns c = c.check_contents.ensures ∙ passes_in_front 7 (file_checks c.args.file.now) (c.in_ok-check_header.ensures)

@@ -4,8 +4,7 @@ use lib.ListN.{length}
 use Rattle.points.specs.declared.layouts.Layout.{Layout}
 use Rattle.points.specs.declared.formats.Place.{Place}
 use Rattle.points.specs.Formats.{layout_of}
-use Rattle.points.specs.declared.Decoded.TheVariants.{Fields}
-use Rattle.points.specs.Points.{number_in}
+use Rattle.points.specs.Points.{Fields, number_in}
 use Rattle.points.proofs.AnswerLaws.{refused, accepted_by, with_others, shape_found, time_there, colour_there}
 use Rattle.points.proofs.decode.Goals as goal
 

@@ -8,8 +8,7 @@ use lib.ListN.{length}
 use lib.Seq.{sets}
 use lib.Dec.{T}
 use Rattle.fields.specs.Bytes.{Bytes}
-use Rattle.fields.specs.Checks.{fails, first_failing}
-use Rattle.fields.specs.Checks.{Passes, Fails}
+use Rattle.fields.specs.Checks.{fails, first_failing, Passes, Fails}
 use Rattle.fields.proofs.CheckLaws.{gives, goes_on}
 use Rattle.points.specs.declared.Point.{Point}
 use Rattle.points.specs.Points.{shape}

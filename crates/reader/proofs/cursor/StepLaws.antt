@@ -5,14 +5,12 @@ use Prim.Native.Nat.{ℕ, ◌+◌}
 use lib.ListN.{drop}
 use lib.Dec.{ltb}
 use Rattle.fields.specs.Bytes.{Bytes}
-use Rattle.fields.specs.Checks.{first_failing, Test, ◌below◌, not_so, ◌or◌, Clear}
-use Rattle.fields.specs.Checks.{Passes, Fails}
+use Rattle.fields.specs.Checks.{first_failing, Test, ◌below◌, not_so, ◌or◌, Clear, Passes, Fails}
 use Rattle.fields.proofs.CheckLaws.{Broken, first_fails, all_clear, then_passes, then_fails}
 use Rattle.lasfile.specs.Records.{size_of}
 use Rattle.lasfile.specs.HeaderFields.{header_size, point_offset, record_count}
 use Rattle.lasfile.specs.FileChecks.{file_verdict}
-use Rattle.reader.specs.Steps.{step_checks, record_places, next_cursor, record_if, step_of}
-use Rattle.reader.specs.declared.cursor.Step.TheVariants.{Record, Refused}
+use Rattle.reader.specs.Steps.{step_checks, record_places, next_cursor, record_if, step_of, Record, Refused}
 
 module _ (s : Bytes) (index position : ℕ) where
   -- the test behind number 18

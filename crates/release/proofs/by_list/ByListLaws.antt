@@ -13,8 +13,7 @@ use lib.Dec.{ltb}
 use borrow.Author.Tests.{ltb-true, ltb-false}
 use lib.Seq.{sets, take_all, take_at}
 use Rattle.fields.specs.Bytes.{Bytes, AllBytes, zeros, join}
-use Rattle.fields.specs.Checks.{Verdict}
-use Rattle.fields.specs.Checks.{Passes, Fails}
+use Rattle.fields.specs.Checks.{Verdict, Passes, Fails}
 use Rattle.lasfile.specs.Records.{records_bytes}
 use Rattle.lasfile.specs.HeaderFields.{header_block}
 use Rattle.lasfile.specs.FileChecks.{file_verdict}
@@ -22,8 +21,7 @@ use Rattle.publicpart.specs.Public.{public_of}
 use Rattle.publicpart.specs.Render.{render}
 use Rattle.publicpart.specs.Cutting.{cutting_lines, fill, fill_unless, list_verdict, release_by_list}
 use Rattle.publicpart.specs.declared.Span.{Span}
-use Rattle.publicpart.specs.declared.Answer.{Answer}
-use Rattle.publicpart.specs.declared.Answer.TheVariants.{Released, Short, Refused}
+use Rattle.publicpart.specs.Release.{Answer, Released, Short, Refused}
 use Rattle.publicpart.proofs.AnswerLaws.{room_short, room_long}
 use Rattle.publicpart.proofs.CuttingLaws.{listable, length-cutting_lines, by_list_refused, by_list_passed}
 use Rattle.release.proofs.AssemblyLaws.{render-length}

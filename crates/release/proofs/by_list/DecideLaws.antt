@@ -7,11 +7,9 @@ use lib.ListN.{length, replicate, length-replicate}
 use Rattle.fields.specs.Bytes.{Bytes}
 use Rattle.fields.specs.Checks.{Passes}
 use Rattle.publicpart.specs.declared.Span.{Span}
-use Rattle.publicpart.specs.declared.Answer.{Answer}
-use Rattle.publicpart.specs.declared.Answer.TheVariants as answer
-use Rattle.publicpart.specs.declared.Listed.{Listed}
-use Rattle.publicpart.specs.declared.Listed.TheVariants.{Lines, Refused}
-use Rattle.publicpart.specs.Cutting.{span, cutting_lines, list_verdict, release_by_list}
+use Rattle.publicpart.specs.Release.{Answer}
+use Rattle.publicpart.specs.Release as answer
+use Rattle.publicpart.specs.Cutting.{Listed, Lines, Refused, span, cutting_lines, list_verdict, release_by_list}
 use Rattle.publicpart.proofs.CuttingLaws.{listable, lines_said, refused_said, length-cutting_lines, by_list_refused, by_list_passed}
 use Rattle.release.specs.ByList.{DecidesList, DecidesRoom, Counted}
 

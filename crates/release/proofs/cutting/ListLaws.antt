@@ -7,12 +7,10 @@ use mathlib.Core.List.{List}
 use lib.ListN.{length, take}
 use lib.Seq.{take-length}
 use Rattle.fields.specs.Bytes.{Bytes}
-use Rattle.fields.specs.Checks.{Verdict}
-use Rattle.fields.specs.Checks.{Passes, Fails}
+use Rattle.fields.specs.Checks.{Verdict, Passes, Fails}
 use Rattle.publicpart.proofs.CuttingLaws.{listable}
 use Rattle.publicpart.specs.declared.Span.{Span}
-use Rattle.publicpart.specs.declared.Listed.{Listed}
-use Rattle.publicpart.specs.Cutting.{cutting_lines, fill, list_verdict, list_under, cutting_list}
+use Rattle.publicpart.specs.Cutting.{Listed, cutting_lines, fill, list_verdict, list_under, cutting_list}
 use Rattle.release.specs.ByList.{DecidesList, lines_listed}
 
 -- so many lines there are, and the list has room for them

@@ -10,7 +10,7 @@ use Rattle.lasfile.specs.FileChecks.{file_verdict}
 use Rattle.sheet.specs.Sheet.{sheet_verdict}
 use Rattle.publicpart.specs.Public.{public_of}
 use Rattle.publicpart.specs.Render.{render}
-use Rattle.publicpart.specs.declared.Answer.TheVariants.{Released, Short}
+use Rattle.publicpart.specs.Release.{Released, Short}
 use Rattle.publicpart.proofs.AnswerLaws.{refused_by_file, refused_by_sheet, release_short, release_long}
 use Rattle.release.specs.Assembly.{end_of_points}
 use Rattle.release.proofs.AssemblyLaws.{assembled, Sized, sized}

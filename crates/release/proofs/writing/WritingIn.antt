@@ -15,8 +15,7 @@ use Rattle.fields.proofs.StoreLaws.{sets-append}
 use Rattle.lasfile.specs.HeaderFields.{header_block}
 use Rattle.publicpart.specs.Cutting.{span}
 use Rattle.publicpart.specs.declared.Span.{Span}
-use Rattle.publicpart.specs.declared.Answer.{Answer}
-use Rattle.publicpart.specs.declared.Answer.TheVariants.{Released, Short, Refused}
+use Rattle.publicpart.specs.Release.{Answer, Released, Short, Refused}
 use Rattle.release.specs.declared.writing.Writing.{Writing}
 use Rattle.release.specs.Writing.{item_bytes, items_from, lines_in, records_in, items, writing_of, writing_after, ItemsFit, with_items}
 

@@ -6,9 +6,7 @@ use mathlib.Core.Bool.{Bool, true, false}
 use mathlib.Core.List.{List, [], ◌∷◌}
 use Rattle.fields.specs.Lists.{kept, cons_if}
 use Rattle.fields.specs.Bytes.{Bytes}
-use Rattle.fields.specs.Checks.{Check, fail_if, first_failing, fails, then, number_of}
-use Rattle.fields.specs.Checks.{Verdict}
-use Rattle.fields.specs.Checks.{Passes, Fails}
+use Rattle.fields.specs.Checks.{Check, fail_if, first_failing, fails, then, number_of, Verdict, Passes, Fails}
 use Rattle.fields.proofs.CheckLaws.{Without}
 use Rattle.lasfile.specs.FileChecks.{file_verdict, mend_verdict}
 use Rattle.sheet.specs.Sheet.{line_checks, lines_verdict, sheet_verdict, after_line}

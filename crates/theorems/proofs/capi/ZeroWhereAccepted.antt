@@ -8,9 +8,7 @@ use mathlib.Core.Option.{Option, none, some}
 use lib.Dec.{eqb, ltb}
 use lib.ListN.{length}
 use Rattle.fields.specs.Bytes.{Bytes}
-use Rattle.fields.specs.Checks.{fail_if, number_of, then}
-use Rattle.fields.specs.Checks.{Verdict}
-use Rattle.fields.specs.Checks.{Passes, Fails}
+use Rattle.fields.specs.Checks.{fail_if, number_of, then, Verdict, Passes, Fails}
 use Rattle.fields.proofs.CheckLaws.{Without}
 use Rattle.points.specs.Points as points
 use Rattle.points.specs.Encoding as encoding
@@ -24,10 +22,9 @@ use Rattle.reader.specs.declared.cursor.VlrCursor.{VlrCursor}
 use Rattle.reader.specs.OnePoint.{point_checks, point_if, point_at_of}
 use Rattle.sheet.specs.Sheet.{sheet_verdict}
 use Rattle.sheet.specs.Keeping.{kept_under}
-use Rattle.geokeys.specs.GeoKeys.{directory_checks, entry_checks, double_checks, text_checks, answer_if, either, double_in, text_in, in_parameters, from_entry, location_of, payload_at, entry_of, projection_place, directory_of, directory_verdict, searched, search_verdict, lookup}
+use Rattle.geokeys.specs.GeoKeys.{directory_checks, entry_checks, double_checks, text_checks, answer_if, either, double_in, text_in, in_parameters, from_entry, location_of, payload_at, entry_of, projection_place, directory_of, directory_verdict, searched, search_verdict, lookup, GeoKey}
 use Rattle.geokeys.specs.Halving.{halve}
 use Rattle.geokeys.proofs.KeyReadLaws.{found_is}
-use Rattle.geokeys.specs.declared.GeoKey.{GeoKey}
 use Rattle.publicpart.specs.Release.{Outcome, refuse_or, short_or, accepted, room_or, release}
 use Rattle.publicpart.specs.declared.Span.{Span}
 use Rattle.publicpart.specs.Cutting.{cutting_lines, list_verdict, list_under, cutting_list, by_list_under, release_by_list}

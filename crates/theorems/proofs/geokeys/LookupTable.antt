@@ -8,14 +8,10 @@ use mathlib.Core.List.{List, [], ◌∷◌, ◌++◌}
 use mathlib.Core.Option.{Option, none, some}
 use lib.Dec.{eqb}
 use Rattle.fields.specs.Bytes.{Bytes}
-use Rattle.fields.specs.Checks.{Check, fails, fail_if, first_failing, then, number_of, not_so}
-use Rattle.fields.specs.Checks.{Verdict}
-use Rattle.fields.specs.Checks.{Passes, Fails}
+use Rattle.fields.specs.Checks.{Check, fails, fail_if, first_failing, then, number_of, not_so, Verdict, Passes, Fails}
 use Rattle.fields.proofs.CheckLaws.{Numbers, both_numbers, given_among, Without}
 use Rattle.lasfile.specs.FileChecks.{file_checks, file_verdict}
-use Rattle.geokeys.specs.GeoKeys.{directory_checks, entry_checks, double_checks, text_checks, answer_if, either, double_in, text_in, in_parameters, from_entry, location_of, payload_at, projection_place, directory_of, directory_verdict, search_verdict}
-use Rattle.geokeys.specs.declared.GeoKey.{GeoKey}
-use Rattle.geokeys.specs.declared.GeoKey.TheVariants.{Value}
+use Rattle.geokeys.specs.GeoKeys.{directory_checks, entry_checks, double_checks, text_checks, answer_if, either, double_in, text_in, in_parameters, from_entry, location_of, payload_at, projection_place, directory_of, directory_verdict, search_verdict, GeoKey, Value}
 use Rattle.capi.specs.RecordAnswers.{geokey_numbers}
 use Rattle.theorems.specs.Tables.{is_some, chosen, value_checks, parameter_checks, entry_table, key_table, directory_table, search_checks}
 use Rattle.theorems.specs.ZeroWhereAccepted.{is_zero}

@@ -9,14 +9,11 @@ use lib.ListN.{length, take, drop, take-append-drop}
 use lib.Seq.{sets, sets-eq, length-sets, length-take-le, drop_at}
 use lib.Dec.{eqb→eq}
 use Rattle.fields.specs.Bytes.{Bytes, AllBytes, join}
-use Rattle.fields.specs.Checks.{first_failing, Clear}
-use Rattle.fields.specs.Checks.{Verdict}
-use Rattle.fields.specs.Checks.{Passes, Fails}
+use Rattle.fields.specs.Checks.{first_failing, Clear, Verdict, Passes, Fails}
 use Rattle.fields.proofs.CheckLaws.{none_fails, unclear}
 use Rattle.points.specs.Formats.{format_size, time_place, colour_place}
 use Rattle.points.specs.declared.Point.{Point}
-use Rattle.points.specs.declared.Decoded.TheVariants.{Fields}
-use Rattle.points.specs.Points.{point_of, shape, decode_checks, fields_if, decoded}
+use Rattle.points.specs.Points.{Fields, point_of, shape, decode_checks, fields_if, decoded}
 use Rattle.points.specs.Raw.{bits, class_in, class_of, return_of}
 use Rattle.points.specs.Encoding.{shared_fields, time_fields, colour_fields, point_bytes, large, encode_checks, stored_if, encoded, blank, InRange}
 use Rattle.theorems.specs.RoundTrips.{RoundTrips}

@@ -10,8 +10,7 @@ use lib.ListN.{length, drop}
 use lib.Dec.{T}
 use Rattle.fields.specs.Bytes.{Bytes, part}
 use Rattle.fields.specs.Text.{cut}
-use Rattle.fields.specs.Checks.{Clear}
-use Rattle.fields.specs.Checks.{Passes}
+use Rattle.fields.specs.Checks.{Clear, Passes}
 use Rattle.fields.proofs.ByteLaws.{part-part, length-part-le}
 use Rattle.fields.proofs.TextLaws.{cut_front, length_cut}
 use Rattle.lasfile.specs.Records.{size_of, places, walk_end}
@@ -19,11 +18,9 @@ use Rattle.lasfile.proofs.vlr.FieldLaws.{user_at, id_at, description_at, record_
 use Rattle.lasfile.proofs.vlr.RecordLaws.{walk_grows, walk_end_step, places_none, places_step}
 use Rattle.lasfile.specs.HeaderFields.{header_size, point_offset, record_count}
 use Rattle.lasfile.specs.FileChecks.{file_verdict}
-use Rattle.reader.specs.Steps.{record_places, next_cursor, step_of, collect, visited}
+use Rattle.reader.specs.Steps.{record_places, next_cursor, step_of, collect, visited, Step, Record, Refused}
 use Rattle.theorems.specs.Visits.{cursor, Means, Visits}
 use Rattle.reader.specs.declared.cursor.RecordPlaces.{RecordPlaces}
-use Rattle.reader.specs.declared.cursor.Step.{Step}
-use Rattle.reader.specs.declared.cursor.Step.TheVariants.{Record, Refused}
 use Rattle.lasfile.specs.Passed.{Passed}
 use Rattle.lasfile.proofs.Passed.{records_end_lem, passed}
 use Rattle.reader.proofs.cursor.StepLaws.{test, refused_18, answered}

@@ -5,9 +5,8 @@ use Prim.Native.Nat.{ℕ, zero, suc, ◌-◌}
 use native.Mathlib.Omega.{arith}
 use mathlib.Core.List.{[], ◌∷◌, ◌++◌}
 use lib.ListN.{replicate}
-use Rattle.fields.specs.Checks.{Passes, Fails}
+use Rattle.fields.specs.Checks.{Passes, Fails, first_failing, fail_if, fails, then}
 use Rattle.fields.specs.Bytes.{Bytes, part, same, join}
-use Rattle.fields.specs.Checks.{first_failing, fail_if, fails, then}
 use Rattle.fields.proofs.CheckLaws.{then_passed}
 use Rattle.sheet.specs.Sheet.{kind, line_length, lowest, highest, edge, low, high, on_every_axis, after_line, lines_from, lines, box_in_order, in_order, line_checks, lines_verdict, sheet_verdict}
 use Rattle.sheet.proofs.LineLaws.{first_after, lines_from_lem, lines_more, lines_end, at_most_64, verdict_from, verdict_more, verdict_full}

@@ -8,14 +8,13 @@ use mathlib.Core.Bool.{Bool, true, false}
 use mathlib.Core.List.{List, [], ◌∷◌, ◌++◌}
 use lib.ListN.{length}
 use lib.Dec.{eqb}
-use Rattle.fields.specs.Checks.{Verdict}
-use Rattle.fields.specs.Checks.{Passes, Fails}
+use Rattle.fields.specs.Checks.{Verdict, Passes, Fails}
 use Rattle.fields.specs.Lists.{All, any_of}
 use Rattle.fields.specs.Bytes.{Bytes}
 use Rattle.sheet.specs.Sheet.{kind, lines, sheet_verdict}
 use Rattle.sheet.specs.Keeping.{contains_class, keeps_class, kept_under, up_to_first, lines_for, tested_under, class_test}
 use Rattle.sheet.proofs.FirstLaws.{first_passes, first_fails, no_lines}
-use Rattle.sheet.specs.declared.answers.Tested.TheVariants.{Held, NotHeld, Refused}
+use Rattle.sheet.specs.Tests.{Held, NotHeld, Refused}
 use Rattle.capi.specs.Answers.{kept_numbers, tested_numbers}
 use Rattle.capi.specs.Interface.{las_class_kept, las_class_test}
 use Rattle.theorems.specs.Sheets.{SomeLine}

@@ -7,9 +7,8 @@ use native.Mathlib.Omega.{arith}
 use Rattle.fields.specs.Bytes.{Bytes, AllBytes}
 use Rattle.fields.specs.Checks.{Passes}
 use Rattle.geokeys.specs.GeoKeys.{payload_at, entries, directory_of, search_verdict}
-use Rattle.geokeys.specs.Halving.{halve, key_read, lookup_by_halving}
-use Rattle.geokeys.specs.declared.halving.KeyRead.{KeyRead}
-use Rattle.geokeys.proofs.SearchLaws.{searched_at, refused_with, passes_first, searched_is}
+use Rattle.geokeys.specs.Halving.{halve, key_read, lookup_by_halving, KeyRead}
+use Rattle.geokeys.proofs.SearchLaws.{passes_first, searched_is}
 use Rattle.geokeys.proofs.KeyReadLaws.{read_passes, read_fails, at_most_13}
 use Rattle.geokeys.proofs.halving.find_by_halving.Goals as goal
 
@@ -24,17 +23,17 @@ with_few : (s : Bytes) (key : ℕ) (r : KeyRead) → AllBytes s → r ≡ lookup
 with_few s key r bytes e = (e, rw e (at_most_13 s bytes key))
 
 pub payload_at-requires : goal.payload_at-requires
-payload_at-requires c = omega (arith, (searched_at _ _ _ c.find_directory-searched.ensures c.in-Place.is).2)
+payload_at-requires c = omega (arith, c.in-Ok.ensures.2)
 
 pub in_directory-requires : goal.in_directory-requires
-in_directory-requires c = passes_first _ (searched_at _ _ _ c.find_directory-searched.ensures c.in-Place.is).0
+in_directory-requires c = passes_first _ c.in-Ok.ensures.0
 
-pub returns-in-Place : goal.returns-in-Place
-returns-in-Place c =
-    let known = searched_at _ _ _ c.find_directory-searched.ensures c.in-Place.is in
+pub returns-in-Ok : goal.returns-in-Ok
+returns-in-Ok c =
+    let known = c.in-Ok.ensures in
     with_few _ _ _ (λ i. omega (arith, c.type_inv.file i))
     (in_directory _ _ _ _ _ known.0 known.1 c.payload_at.ensures c.in_directory.ensures)
 
-pub returns-in-Refused : goal.returns-in-Refused
+pub returns-in-Err : goal.returns-in-Err
 unfolding lookup_by_halving
-returns-in-Refused c = (sym (read_fails _ _ _ (refused_with _ _ _ c.find_directory-searched.ensures c.in-Refused.is)), omega arith)
+returns-in-Err c = (sym (read_fails _ _ _ c.in-Err.ensures), omega arith)

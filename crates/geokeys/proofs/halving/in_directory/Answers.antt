@@ -3,10 +3,9 @@ use mathlib.Core.Path.{◌≡◌, ap}
 use Prim.Native.Nat.{ℕ}
 use lib.ListN.{drop}
 use Rattle.fields.specs.Bytes.{Bytes, part, num, pieces}
-use Rattle.geokeys.specs.GeoKeys.{key_count, entries, from_entry}
+use Rattle.geokeys.specs.GeoKeys.{key_count, entries, from_entry, GeoKey}
 use Rattle.geokeys.specs.Halving.{halve, key_read}
 use Rattle.geokeys.specs.Places.{entry_in, halved_in}
-use Rattle.geokeys.specs.declared.GeoKey.{GeoKey}
 use Rattle.geokeys.specs.declared.halving.Search.{Search}
 use Rattle.geokeys.proofs.halving.in_directory.Goals as goal
 

@@ -1,5 +1,6 @@
 -- `point::point_at` meets its contract. Assumes nothing.
 use mathlib.Core.Path.{◌≡◌, sym, ◌∙◌, subst}
+use Rattle.std.proofs.Common.{rules}
 use Prim.Native.Nat.{ℕ, suc, ◌+◌, ◌*◌, ◌≤◌, ◌<◌}
 use native.Mathlib.Nat.{mul-le-mul_right}
 use native.Mathlib.Omega.{arith}
@@ -7,19 +8,16 @@ use borrow.Author.Tests.{lt-ltb, le-ltb}
 use lib.ListN.{length}
 use lib.Dec.{T}
 use Rattle.fields.specs.Bytes.{Bytes, part}
-use Rattle.fields.specs.Checks.{first_failing}
-use Rattle.fields.specs.Checks.{Passes, Fails}
+use Rattle.fields.specs.Checks.{first_failing, Passes, Fails}
 use Rattle.fields.proofs.ByteLaws.{length_part}
 use Rattle.fields.proofs.CheckLaws.{first_fails, all_clear, then_passes, then_fails}
-use Rattle.points.specs.declared.Decoded.TheVariants.{Fields}
-use Rattle.points.specs.Points.{point_of, decoded}
+use Rattle.points.specs.Points.{Fields, point_of, decoded}
 use Rattle.points.proofs.AnswerLaws.{decodes}
 use Rattle.lasfile.specs.HeaderFields.{point_count, record_length, format}
 use Rattle.lasfile.specs.FileChecks.{file_verdict}
-use Rattle.reader.specs.OnePoint.{point_checks, point_place, point_if, point_at_of}
-use Rattle.reader.specs.declared.point.PointAt.TheVariants.{At, Refused}
+use Rattle.reader.specs.OnePoint.{point_checks, point_place, point_if, point_at_of, At, Refused}
 use Rattle.lasfile.proofs.Passed.{passed, product_small}
-use Rattle.reader.proofs.point.point_at.Goals.{After-decode-decoded, Else-point_count-index, In_default}
+use Rattle.reader.proofs.point.point_at.Goals.{After-decode, Else-point_count-index, In_ok-check_file}
 use Rattle.reader.proofs.point.point_at.Goals as goal
 
 -- what is answered, case by case
@@ -57,39 +55,31 @@ module _ (s : Bytes) (index : ℕ) where
       decoded_here f n b e l p =
           rw (p, e, l) (decodes (format s) (record_length s) _ (length_part (point_place s index) (record_length s) s in_file) (passed s passes).record_low (passed s passes).formatted)
 
-passes_at : (c : In_default) → file_verdict c.args.file.now ≡ Passes
-passes_at c = sym c.check_file-verdict.ensures ∙ c.in_default.is
-
-passes_at_at_after_decode_decoded : (c : After-decode-decoded) → file_verdict c.args.file.now ≡ Passes
-passes_at_at_after_decode_decoded c = sym c.check_file-verdict.ensures ∙ c.in_default.is
+passes_at : (c : In_ok-check_file) → file_verdict c.args.file.now ≡ Passes
+passes_at c = sym c.in_ok-check_file.ensures
 
 below_at : (c : Else-point_count-index) → c.args.index < point_count c.args.file.now
 below_at c = omega arith
 
-below_at_at_after_decode_decoded : (c : After-decode-decoded) → c.args.index < point_count c.args.file.now
-below_at_at_after_decode_decoded c = omega arith
-
--- what was decoded, over the file
-result_is : (c : After-decode-decoded)
-    → c.decode-decoded.result
+-- what is decoded, over the file
+decoded_at : (c : After-decode) → file_verdict c.args.file.now ≡ Passes → c.args.index < point_count c.args.file.now
+    → decoded c.format-format.result c.record_length-length.result c.part_at.result.now
     ≡ Fields (point_of (format c.args.file.now) (part (point_place c.args.file.now c.args.index) (record_length c.args.file.now) c.args.file.now))
 unfolding point_place
-result_is c =
+decoded_at c passes below =
     let s = c.args.file.now in
     let index = c.args.index in
     let length = c.record_length-length.ensures.0 in
     let bytes : c.part_at.result.now ≡ part (point_place s index) c.record_length-length.result s =
     c.part_at.ensures ∙ rw (c.point_offset.ensures.0, length) in
-    let read : c.decode-decoded.result ≡ decoded c.format-format.result c.record_length-length.result c.part_at.result.now =
-    c.decode-decoded.ensures in
-    read
-    ∙ decoded_here s index (passes_at_at_after_decode_decoded c) (below_at_at_after_decode_decoded c) _ _ _ c.format-format.ensures.0 length bytes
+    decoded_here s index passes below _ _ _ c.format-format.ensures.0 length bytes
 
-pub returns-in-Fails : goal.returns-in-Fails
-returns-in-Fails c = sym (refused_by_file _ _ _ (sym c.check_file-verdict.ensures ∙ c.in-Fails.is))
+pub returns-in_err-check_file : goal.returns-in_err-check_file
+returns-in_err-check_file c =
+    let refused = sym (refused_by_file c.args.file.now c.args.index _ (sym c.in_err-check_file.ensures)) in search (rules, refused)
 
 pub returns-then-point_count-index : goal.returns-then-point_count-index
-returns-then-point_count-index c = sym (refused_11 _ _ (passes_at (goal.at.returns-then-point_count-index c).In_default) (omega arith))
+returns-then-point_count-index c = sym (refused_11 _ _ (passes_at (goal.at.returns-then-point_count-index c).In_ok-check_file) (omega arith))
 
 pub overflow_mul-place : goal.overflow_mul-place
 overflow_mul-place c = omega (arith, product_small c.args.index c.record_length-length.result (omega arith) (omega arith))
@@ -97,20 +87,22 @@ overflow_mul-place c = omega (arith, product_small c.args.index c.record_length-
 pub overflow_add-place : goal.overflow_add-place
 overflow_add-place c = omega (arith, product_small c.args.index c.record_length-length.result (omega arith) (omega arith))
 
-pub returns-in-Fields : goal.returns-in-Fields
+pub returns : goal.returns
 unfolding point_place
-returns-in-Fields c =
+returns c =
     let s = c.args.file.now in
-    let answer = answered s c.args.index (passes_at (goal.at.returns-in-Fields c).In_default) (below_at (goal.at.returns-in-Fields c).Else-point_count-index) in
-    let result = result_is (goal.at.returns-in-Fields c).After-decode-decoded in
-    let told = c.in-Fields.is in
+    let g = goal.at.returns c in
+    let passes = passes_at g.In_ok-check_file in
+    let below = below_at g.Else-point_count-index in
+    let answer = answered s c.args.index passes below in
+    let told = c.in_ok-point.ensures ∙ decoded_at g.After-decode passes below in
     let place = c.point_offset.ensures.0 in
     let length = c.record_length-length.ensures.0 in
     cc
 
-pub returns-in-Refused : goal.returns-in-Refused
-returns-in-Refused c =
-    let result = result_is (goal.at.returns-in-Refused c).After-decode-decoded in
-    let told = c.in-Refused.is in
+pub returns-in_err-point : goal.returns-in_err-point
+returns-in_err-point c =
+    let g = goal.at.returns-in_err-point c in
+    let told = c.in_err-point.ensures ∙ decoded_at g.After-decode (passes_at g.In_ok-check_file) (below_at g.Else-point_count-index) in
     let z : ◌≡◌ {A = ℕ} 0 1 = cc in
     absurd (omega arith)

@@ -10,7 +10,7 @@ use lib.ListN.{length}
 use Rattle.fields.specs.Bytes.{AllBytes}
 use Rattle.publicpart.specs.Public.{public_of}
 use Rattle.publicpart.specs.Render.{new_offset, render}
-use Rattle.publicpart.specs.declared.Answer.TheVariants.{Released, Short}
+use Rattle.publicpart.specs.Release.{Released, Short}
 use Rattle.publicpart.proofs.RenderLaws.{new_offset_lem}
 use Rattle.publicpart.proofs.AnswerLaws.{room_short, room_long}
 use Rattle.release.proofs.AssemblyLaws.{render-length}

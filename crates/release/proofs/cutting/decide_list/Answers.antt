@@ -9,7 +9,7 @@ use Rattle.lasfile.specs.FileChecks.{file_verdict}
 use Rattle.lasfile.proofs.Passed.{passed}
 use Rattle.sheet.specs.Sheet.{sheet_verdict}
 use Rattle.publicpart.specs.Public.{public_of}
-use Rattle.publicpart.specs.declared.Listed.TheVariants.{Lines}
+use Rattle.publicpart.specs.Cutting.{Lines}
 use Rattle.publicpart.proofs.Sound.{sound_public}
 use Rattle.publicpart.proofs.CuttingLaws.{list_by_file, list_by_sheet, list_short, list_long, length-cutting_lines}
 use Rattle.release.specs.declared.vlrs.KeptRecords.{KeptRecords}

@@ -1,6 +1,0 @@
--- `answers::record_kept` meets its contract. Assumes nothing.
-use mathlib.Core.Path.{◌∙◌, refl}
-use Rattle.sheet.proofs.answers.record_kept.Goals as goal
-
-pub returns : goal.returns
-returns c = c.answer.ensures ∙ rw (c.check_sheet.ensures, c.holds_record.ensures) refl
