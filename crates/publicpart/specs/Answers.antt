@@ -17,6 +17,10 @@ abbrev pub refused_as : ReleaseError → Answer
 refused_as (Refused r) = answer.Refused (refusal_number r)
 refused_as (OutputTooShort n) = Short n
 
+-- what was released, as an answer
+abbrev pub taken : Released → Answer
+taken r = answer.Released r.length r.points r.records
+
 abbrev pub answer_of : Result Released ReleaseError → Answer
-answer_of (Ok r) = answer.Released r.length r.points r.records
+answer_of (Ok r) = taken r
 answer_of (Err e) = refused_as e

@@ -4,13 +4,14 @@ ghost use Rattle.fields.specs.Checks.{Passes};
 ghost use Rattle.lasfile.specs.FileChecks.{file_verdict};
 ghost use Rattle.sheet.specs.Boxes.{BoxesOf};
 ghost use Rattle.publicpart.specs.Public.{public_of};
-ghost use Rattle.publicpart.specs.Cutting.{cutting_lines, fill, cutting_list};
+ghost use Rattle.fields.specs.Refusals.{by_number};
+ghost use Rattle.publicpart.specs.Cutting.{Lines, Refused, cutting_lines, fill, cutting_list};
 ghost use Rattle.release.specs.Filling.{table_lines};
-ghost use Rattle.release.specs.ByList.{DecidesList, lines_listed};
+ghost use Rattle.release.specs.ByList.{DecidesList};
 
 use crate::{filling, lines, vlrs};
-use fields::{Verdict, refusals};
-use publicpart::{Listed, Span};
+use fields::refusal::Refusal;
+use publicpart::Span;
 use sheet::boxes;
 
 // The table of `table_for`, by the lines that it gives with the sheet's boxes.
@@ -74,42 +75,25 @@ fn points_kept(file: &[u8], sheet: &[u8]) -> usize
 }
 
 // What a cutting list answers for a list of so many lines.
-pub(crate) fn decide_list(file: &[u8], sheet: &[u8], list_length: usize) -> Listed
-    ensures { DecidesList sheet.now file.now list_length result }
+pub(crate) fn decide_list(file: &[u8], sheet: &[u8], list_length: usize) -> Result<usize, Refusal>
+    ensures { DecidesList sheet.now file.now list_length (by_number Lines Refused result) }
 {
-    let verdict = lasfile::check_file(file);
-    if let Verdict::Fails(n) = verdict {
-        return Listed::Refused(n);
-    }
-    let sheet_verdict = sheet::check_sheet(sheet);
-    if let Verdict::Fails(n) = sheet_verdict {
-        return Listed::Refused(n);
-    }
+    crate::check_both(file, sheet)?;
     let kept = vlrs::measure(file, sheet);
     let lines = kept.count + points_kept(file, sheet);
     if list_length < lines {
-        return Listed::Refused(Refusal::ListTooShort);
+        return Err(Refusal::ListTooShort);
     }
-    Listed::Lines(lines)
-}
-
-// How many lines are filled.
-fn lines_listed(answer: Listed) -> usize
-    ensures { result ≡ lines_listed answer }
-{
-    match answer {
-        Listed::Lines(n) => n,
-        Listed::Refused(_) => 0,
-    }
+    Ok(lines)
 }
 
 // Fills a list with a line for the payload of every kept record and for every kept point. Everything that can refuse is
-// decided before the first line is written.
-pub fn cutting_list(file: &[u8], sheet: &[u8], list: &mut [Span]) -> Listed
-    ensures { (result, list.new)
+// decided before the first line is written. Says how many lines these are.
+pub fn cutting_list(file: &[u8], sheet: &[u8], list: &mut [Span]) -> Result<usize, Refusal>
+    ensures { (by_number Lines Refused result, list.new)
         ≡ cutting_list sheet.now file.now list.old }
 {
-    let answer = decide_list(file, sheet, list.len());
-    fill_list(file, sheet, lines_listed(answer), list);
-    answer
+    let lines = decide_list(file, sheet, list.len())?;
+    fill_list(file, sheet, lines, list);
+    Ok(lines)
 }

@@ -16,13 +16,19 @@ mod writing;
 
 ghost use Rattle.std.specs.Prelude.{◌≡◌, ◌+◌, ◌*◌, ◌^◌, ◌<◌, length};
 ghost use Rattle.lasfile.specs.HeaderFields.{format, point_count, record_length};
+ghost use Rattle.fields.specs.Checks.{then};
+ghost use Rattle.fields.specs.Refusals.{verdict_of};
+ghost use Rattle.lasfile.specs.FileChecks.{file_verdict};
+ghost use Rattle.sheet.specs.Sheet.{sheet_verdict};
+ghost use Rattle.publicpart.specs.Answers.{answer_of};
 ghost use Rattle.publicpart.specs.Release.{release};
 ghost use Rattle.sheet.specs.Keeping.{TableOf};
 ghost use Rattle.release.specs.Assembly.{kept_in, room_asked};
 
-use fields::{Verdict, slices};
+use fields::refusal::Refusal;
+use fields::slices;
 use lasfile::header;
-use publicpart::Answer;
+use publicpart::{ReleaseError, Released};
 use sheet::{boxes, class_table};
 
 // How many points of a file a table and boxes keep.
@@ -65,18 +71,20 @@ pub(crate) fn table_for(file: &[u8], sheet: &[u8]) -> [bool; 256]
     class_table::class_table(sheet, header::format(file))
 }
 
-// Releases what a sheet keeps of a file. Everything that can refuse is decided before the first byte is written.
-pub fn release(file: &[u8], sheet: &[u8], out: &mut [u8]) -> Answer
-    ensures { (result, out.new) ≡ release sheet.now file.now out.old }
+// Checks a file, and then a sheet.
+#[tactic(auto, unfolding(fields::specs::Checks::then))]
+pub(crate) fn check_both(file: &[u8], sheet: &[u8]) -> Result<(), Refusal>
+    ensures { verdict_of result ≡ then (file_verdict file.now) (sheet_verdict sheet.now) }
 {
-    let verdict = lasfile::check_file(file);
-    if let Verdict::Fails(n) = verdict {
-        return Answer::Refused(n);
-    }
-    let sheet_verdict = sheet::check_sheet(sheet);
-    if let Verdict::Fails(n) = sheet_verdict {
-        return Answer::Refused(n);
-    }
+    lasfile::check_file(file)?;
+    sheet::check_sheet(sheet)
+}
+
+// Releases what a sheet keeps of a file. Everything that can refuse is decided before the first byte is written.
+pub fn release(file: &[u8], sheet: &[u8], out: &mut [u8]) -> Result<Released, ReleaseError>
+    ensures { (answer_of result, out.new) ≡ release sheet.now file.now out.old }
+{
+    check_both(file, sheet)?;
     let kept = vlrs::measure(file, sheet);
     let table = table_for(file, sheet);
     let boxes = boxes::boxes_of(sheet);
@@ -84,9 +92,13 @@ pub fn release(file: &[u8], sheet: &[u8], out: &mut [u8]) -> Answer
     let start = kept.end;
     let needed = room_for(file, &table, &boxes, start, out.len());
     if out.len() < needed {
-        return Answer::Short(needed);
+        return Err(ReleaseError::OutputTooShort(needed));
     }
     let points = assembly::write(file, sheet, &table, &boxes, records, start, out);
     let length = start + points * header::record_length(file);
-    Answer::Released(length, points, records)
+    Ok(Released {
+        length,
+        points,
+        records,
+    })
 }

@@ -2,13 +2,14 @@
 ghost use Rattle.std.specs.Prelude.{◌≡◌, ◌+◌, ◌-◌, ◌^◌, ◌≤◌, ◌<◌, length};
 ghost use Rattle.std.proofs.lemmas.List.Edits.{sets};
 ghost use Rattle.lasfile.specs.Records.{front_size};
+ghost use Rattle.publicpart.specs.Answers.{taken};
 ghost use Rattle.publicpart.specs.Cutting.{named};
-ghost use Rattle.release.specs.Writing.{lines_in, no_writing, writing_of, record_from, item_bytes, writing_after, ItemsFit, with_items};
+ghost use Rattle.release.specs.Writing.{lines_in, writing_of, record_from, item_bytes, writing_after, ItemsFit, with_items};
 
 use crate::{lines, vlrs};
 use fields::{copying, numbers, slices};
 use lasfile::{header, vlr};
-use publicpart::{Answer, Span};
+use publicpart::{Released, Span};
 
 // Where the writing stands: line k comes next, and goes to the place `to`. The first `records` of the lines are for
 // payloads. `more` says that there is a line k.
@@ -21,34 +22,18 @@ pub struct Writing {
     pub lines: usize,
 }
 
-// No writing at all.
-fn no_writing() -> Writing
-    ensures { result ≡ no_writing }
-{
-    Writing {
-        more: false,
-        k: 0,
-        to: 0,
-        records: 0,
-        lines: 0,
-    }
-}
-
 // Where the writing begins: directly after the header.
-fn begin(answer: Answer) -> Writing
-    requires { lines_in answer < 2 ^ 64 }
-    ensures { result ≡ writing_of answer }
+fn begin(released: Released) -> Writing
+    requires { lines_in (taken released) < 2 ^ 64 }
+    ensures { result ≡ writing_of (taken released) }
 {
-    match answer {
-        Answer::Released(_, points, records) => Writing {
-            more: 0 < records + points,
-            k: 0,
-            to: header::HEADER_BLOCK,
-            records,
-            lines: records + points,
-        },
-        Answer::Short(_) => no_writing(),
-        Answer::Refused(_) => no_writing(),
+    let lines = released.records + released.points;
+    Writing {
+        more: 0 < lines,
+        k: 0,
+        to: header::HEADER_BLOCK,
+        records: released.records,
+        lines,
     }
 }
 
@@ -108,11 +93,11 @@ fn write_line(file: &[u8], line: Span, t: Writing, out: &mut [u8]) -> Writing
 }
 
 // Writes what the lines of a list name one after the other, directly after the header.
-pub(crate) fn write_lines(file: &[u8], list: &[Span], answer: Answer, out: &mut [u8])
-    requires { ItemsFit file.now list.now answer (length out.old) }
-    ensures { out.new ≡ with_items file.now list.now answer out.old }
+pub(crate) fn write_lines(file: &[u8], list: &[Span], released: Released, out: &mut [u8])
+    requires { ItemsFit file.now list.now (taken released) (length out.old) }
+    ensures { out.new ≡ with_items file.now list.now (taken released) out.old }
 {
-    let mut t = begin(answer);
+    let mut t = begin(released);
     while t.more {
         t = write_line(file, lines::line_at(list, t.k), t, out);
     }

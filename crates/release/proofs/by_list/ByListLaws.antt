@@ -21,6 +21,9 @@ use Rattle.publicpart.specs.Public.{public_of}
 use Rattle.publicpart.specs.Render.{render}
 use Rattle.publicpart.specs.Cutting.{cutting_lines, fill, fill_unless, list_verdict, release_by_list}
 use Rattle.publicpart.specs.declared.Span.{Span}
+use Rattle.publicpart.specs.Answers.{refused_as}
+use Rattle.publicpart.specs.declared.ReleaseError.{ReleaseError}
+use Rattle.publicpart.specs.declared.ReleaseError.TheVariants as error
 use Rattle.publicpart.specs.Release.{Answer, Released, Short, Refused}
 use Rattle.publicpart.proofs.AnswerLaws.{room_short, room_long}
 use Rattle.publicpart.proofs.CuttingLaws.{listable, length-cutting_lines, by_list_refused, by_list_passed}
@@ -175,3 +178,16 @@ module _ (sheet s out : Bytes) (list : List Span) (a : Answer) (bytes : AllBytes
 
   pub together : ((a, finished s a (with_items s filled a out)), filled) ≡ release_by_list sheet s out list
   together = ⊎_elim together_left together_done cases
+
+-- a refusal leaves output and list as they were
+pub as_they_were : (sheet s out : Bytes) (list : List Span) (e : ReleaseError) → AllBytes s → refused_as e ≡ (release_by_list sheet s out list).0.0
+    → ((refused_as e, out), list) ≡ release_by_list sheet s out list
+as_they_were sheet s out list e bytes decided =
+    ⊎_elim
+    (λ l. sym l.is)
+    (λ d. absurd (no_release e _ _ _ d.answered))
+    (by_verdict sheet s out list (refused_as e) decided (list_verdict sheet s (length list)) refl)
+  where
+    no_release : (e : ReleaseError) (n p r : ℕ) → refused_as e ≡ Released n p r → ⊥
+    no_release (error.Refused k) n p r f = let z : ◌≡◌ {A = ℕ} 0 1 = cc in omega arith
+    no_release (error.OutputTooShort m) n p r f = let z : ◌≡◌ {A = ℕ} 0 1 = cc in omega arith

@@ -10,7 +10,7 @@ use Rattle.fields.specs.Bytes.{Bytes}
 use Rattle.fields.specs.Checks.{Verdict, Passes, Fails}
 use Rattle.publicpart.proofs.CuttingLaws.{listable}
 use Rattle.publicpart.specs.declared.Span.{Span}
-use Rattle.publicpart.specs.Cutting.{Listed, cutting_lines, fill, list_verdict, list_under, cutting_list}
+use Rattle.publicpart.specs.Cutting.{Listed, Refused, cutting_lines, fill, list_verdict, list_under, cutting_list}
 use Rattle.release.specs.ByList.{DecidesList, lines_listed}
 
 -- so many lines there are, and the list has room for them
@@ -45,3 +45,8 @@ pub is_cutting : (sheet s : Bytes) (list zs : List Span) (r : Listed) → Decide
 unfolding cutting_list
 is_cutting sheet s list zs r d e =
     cutting_under (list_verdict sheet s (length list)) (cutting_lines sheet s) list zs r (d list refl) e
+
+-- a refusal leaves the list as it was
+pub as_it_was : (sheet s : Bytes) (list : List Span) (n : ℕ) → DecidesList sheet s (length list) (Refused n) → (Refused n, list) ≡ cutting_list sheet s list
+unfolding fill
+as_it_was sheet s list n d = is_cutting sheet s list list (Refused n) d refl

@@ -10,12 +10,14 @@ use Rattle.lasfile.specs.FileChecks.{file_verdict}
 use Rattle.sheet.specs.Sheet.{sheet_verdict}
 use Rattle.publicpart.specs.Public.{public_of}
 use Rattle.publicpart.specs.Render.{render}
-use Rattle.publicpart.specs.Release.{Released, Short}
-use Rattle.publicpart.proofs.AnswerLaws.{refused_by_file, refused_by_sheet, release_short, release_long}
+use Rattle.publicpart.specs.Release.{Released, Short, release, refuse_or}
+use Rattle.fields.proofs.CheckLaws.{then_first, then_passed}
+use Rattle.std.proofs.Common.{rules}
+use Rattle.publicpart.proofs.AnswerLaws.{release_short, release_long}
 use Rattle.release.specs.Assembly.{end_of_points}
 use Rattle.release.proofs.AssemblyLaws.{assembled, Sized, sized}
 use Rattle.release.proofs.assembly.PointLaws.{points_end, end_most, asked_enough, asked_short}
-use Rattle.release.proofs.release.Goals.{After-boxes_of-boxes, After-record_length, After-shared_slice_known-1, In_default, In_default-sheet_verdict}
+use Rattle.release.proofs.release.Goals.{After-boxes_of-boxes, After-record_length, After-shared_slice_known-1, In_ok-check_both}
 use Rattle.release.proofs.release.Goals as goal
 
 file_bytes : (c : After-shared_slice_known-1) → AllBytes c.args.file.now
@@ -24,14 +26,14 @@ file_bytes c i = omega (arith, c.type_inv.file i)
 file_bytes_at_after_boxes_of_boxes : (c : After-boxes_of-boxes) → AllBytes c.args.file.now
 file_bytes_at_after_boxes_of_boxes c i = omega (arith, c.type_inv.file i)
 
-file_passes : (c : In_default) → file_verdict c.args.file.now ≡ Passes
-file_passes c = sym c.check_file-verdict.ensures ∙ c.in_default.is
+file_passes : (c : In_ok-check_both) → file_verdict c.args.file.now ≡ Passes
+file_passes c = then_first _ _ (sym c.in_ok-check_both.ensures)
 
 file_passes_at_after_boxes_of_boxes : (c : After-boxes_of-boxes) → file_verdict c.args.file.now ≡ Passes
-file_passes_at_after_boxes_of_boxes c = sym c.check_file-verdict.ensures ∙ c.in_default.is
+file_passes_at_after_boxes_of_boxes c = then_first _ _ (sym c.in_ok-check_both.ensures)
 
-sheet_passes : (c : In_default-sheet_verdict) → sheet_verdict c.args.sheet.now ≡ Passes
-sheet_passes c = sym c.check_sheet-sheet_verdict.ensures ∙ c.in_default-sheet_verdict.is
+sheet_passes : (c : In_ok-check_both) → sheet_verdict c.args.sheet.now ≡ Passes
+sheet_passes c = then_passed _ _ (sym c.in_ok-check_both.ensures)
 
 sizes : (c : After-boxes_of-boxes)
     → let a = c.args in
@@ -39,11 +41,10 @@ sizes : (c : After-boxes_of-boxes)
 sizes c =
     sized _ _ (file_bytes_at_after_boxes_of_boxes c) (file_passes_at_after_boxes_of_boxes c) c.table_for-table.result c.table_for-table.ensures c.boxes_of-boxes.result c.boxes_of-boxes.ensures _ c.measure-kept.ensures
 
-pub returns-in-Fails : goal.returns-in-Fails
-returns-in-Fails c = sym (refused_by_file _ _ _ _ (sym c.check_file-verdict.ensures ∙ c.in-Fails.is))
-
-pub returns-in-Fails-sheet_verdict : goal.returns-in-Fails-sheet_verdict
-returns-in-Fails-sheet_verdict c = sym (refused_by_sheet _ _ _ (file_passes (goal.at.returns-in-Fails-sheet_verdict c).In_default) _ (sym c.check_sheet-sheet_verdict.ensures ∙ c.in-Fails-sheet_verdict.is))
+pub returns-in_err-check_both : goal.returns-in_err-check_both
+unfolding release refuse_or
+returns-in_err-check_both c =
+    search (rules, c.in_err-check_both.ensures)
 
 pub room_for-needed-requires : goal.room_for-needed-requires
 room_for-needed-requires c = omega (arith, (sizes (goal.at.room_for-needed-requires c).After-boxes_of-boxes).most, c.well_formed)
@@ -60,7 +61,7 @@ returns-then-out-needed c =
     let needed : asked.result ≡ length (render (public_of a.sheet.now a.file.now)) =
     asked.ensures ∙ asked_short table boxes a.file.now start (length a.out.now) (omega (arith, asked.ensures)) ∙ m.needed in
     ap (λ (n : ℕ). (Short n, a.out.now)) needed
-    ∙ sym (release_short _ _ _ (file_passes (goal.at.returns-then-out-needed c).In_default) (sheet_passes (goal.at.returns-then-out-needed c).In_default-sheet_verdict) (omega (arith, needed)))
+    ∙ sym (release_short _ _ _ (file_passes (goal.at.returns-then-out-needed c).In_ok-check_both) (sheet_passes (goal.at.returns-then-out-needed c).In_ok-check_both) (omega (arith, needed)))
 
 pub write-points-requires : goal.write-points-requires
 write-points-requires c =
@@ -98,7 +99,7 @@ output_is c room =
     let boxes = c.boxes_of-boxes in
     let m = sizes (goal.at.overflow_mul-length c).After-boxes_of-boxes in
     c.write-points.ensures.1
-    ∙ rw (m.records, m.offset) (assembled a.sheet.now a.file.now (file_bytes (goal.at.overflow_mul-length c).After-shared_slice_known-1) (file_passes (goal.at.overflow_mul-length c).In_default) table.result table.ensures boxes.result boxes.ensures a.out.now room)
+    ∙ rw (m.records, m.offset) (assembled a.sheet.now a.file.now (file_bytes (goal.at.overflow_mul-length c).After-shared_slice_known-1) (file_passes (goal.at.overflow_mul-length c).In_ok-check_both) table.result table.ensures boxes.result boxes.ensures a.out.now room)
 
 -- the numbers are the released file's length, its points and its records
 pub returns : goal.returns
@@ -115,4 +116,4 @@ returns c =
     let numbers : Released (k.end + wrote.result * c.record_length.result) wrote.result k.count ≡ Released (length (render p)) (length p.points) (length p.records) =
     rw (long, number, m.records) in
     (λ i. (numbers i, output_is c room i))
-    ∙ sym (release_long _ _ _ (file_passes (goal.at.returns c).In_default) (sheet_passes (goal.at.returns c).In_default-sheet_verdict) room)
+    ∙ sym (release_long _ _ _ (file_passes (goal.at.returns c).In_ok-check_both) (sheet_passes (goal.at.returns c).In_ok-check_both) room)

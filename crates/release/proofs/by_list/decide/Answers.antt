@@ -1,18 +1,22 @@
 -- `by_list::decide` meets its contract. Assumes nothing.
+use mathlib.Core.Path.{refl}
+use Rattle.std.proofs.Common.{rules}
+use Rattle.publicpart.specs.Cutting.{Lines, Refused}
 use Rattle.release.proofs.by_list.DecideLaws.{counted_by, decided_room, decided_refused}
 use Rattle.release.proofs.by_list.decide.Goals as goal
 
 pub decide_room-requires : goal.decide_room-requires
 decide_room-requires c =
     let a = c.args in
-    counted_by a.sheet.now a.file.now a.list_length c.decide_list-listed.result c.decide_list-listed.ensures _ c.in-Lines.is
+    counted_by a.sheet.now a.file.now a.list_length (Lines c.in_ok-lines.lines) c.in_ok-lines.ensures _ refl
 
-pub returns-in-Lines : goal.returns-in-Lines
-returns-in-Lines c out list o l =
+pub returns : goal.returns
+returns c out list o l =
     let a = c.args in
-    decided_room a.sheet.now a.file.now a.room a.list_length c.decide_list-listed.result c.decide_list-listed.ensures _ c.in-Lines.is c.decide_room.result c.decide_room.ensures out list o l
+    decided_room a.sheet.now a.file.now a.room a.list_length (Lines c.in_ok-lines.lines) c.in_ok-lines.ensures _ refl _ c.decide_room.ensures out list o l
 
-pub returns-in-Refused : goal.returns-in-Refused
-returns-in-Refused c out list o l =
+pub returns-in_err-lines : goal.returns-in_err-lines
+returns-in_err-lines c out list o l =
     let a = c.args in
-    decided_refused a.sheet.now a.file.now a.list_length c.decide_list-listed.result c.decide_list-listed.ensures _ c.in-Refused.is out list l
+    let refused = decided_refused a.sheet.now a.file.now a.list_length _ c.in_err-lines.ensures _ refl out list l in
+    search (rules, refused)

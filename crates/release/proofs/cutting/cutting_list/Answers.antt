@@ -1,18 +1,22 @@
 -- `cutting::cutting_list` meets its contract. Assumes nothing.
-use mathlib.Core.Path.{ap, ◌∙◌}
-use Prim.Native.Nat.{ℕ}
-use lib.ListN.{take}
-use Rattle.publicpart.specs.Cutting.{cutting_lines, fill}
-use Rattle.release.proofs.cutting.ListLaws.{has_room, is_cutting}
+use mathlib.Core.Path.{ap, ◌∙◌, refl}
+use Rattle.std.proofs.Common.{rules}
+use Rattle.publicpart.specs.Cutting.{Lines, Refused}
+use Rattle.release.proofs.cutting.ListLaws.{has_room, is_cutting, as_it_was}
 use Rattle.release.proofs.cutting.cutting_list.Goals as goal
 
 pub fill_list-requires : goal.fill_list-requires
 fill_list-requires c =
     let a = c.args in
-    rw c.lines_listed.ensures (has_room a.sheet.now a.file.now a.list.now _ c.decide_list-answer.ensures)
+    has_room a.sheet.now a.file.now a.list.now (Lines c.in_ok-lines.lines) c.in_ok-lines.ensures
 
 pub returns : goal.returns
 returns c =
     let a = c.args in
-    is_cutting a.sheet.now a.file.now a.list.now _ _ c.decide_list-answer.ensures
-    (c.fill_list.ensures ∙ ap (λ (n : ℕ). fill (take n (cutting_lines a.sheet.now a.file.now)) a.list.now) c.lines_listed.ensures)
+    is_cutting a.sheet.now a.file.now a.list.now _ (Lines c.in_ok-lines.lines) c.in_ok-lines.ensures c.fill_list.ensures
+
+pub returns-in_err-lines : goal.returns-in_err-lines
+returns-in_err-lines c =
+    let a = c.args in
+    let refused = as_it_was a.sheet.now a.file.now a.list.now _ c.in_err-lines.ensures in
+    search (rules, refused)
