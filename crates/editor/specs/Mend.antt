@@ -1,6 +1,8 @@
 -- The mender: what becomes of a file whose header lies, and the mark of each field that it works out.
 -- Assumes nothing.
-use Rattle.std.specs.Prelude.{ℕ, ◌+◌, ◌-◌, ◌*◌, ◌/◌, ◌^◌, ◌<◌, min, Bool, false, not, List, [], ◌∷◌, ◌++◌, map, length, drop, get_or, replicate}
+use Rattle.std.specs.Prelude.{ℕ, ◌+◌, ◌-◌, ◌*◌, ◌/◌, ◌^◌, ◌<◌, min, Bool, false, not, List, [], ◌∷◌, ◌++◌, map, length, drop, get_or, replicate, Result, Ok, Err}
+use Rattle.fields.specs.Refusals.{refusal_number}
+use Rattle.fields.specs.declared.refusal.Refusal.{Refusal}
 use Rattle.std.proofs.lemmas.List.Edits.{sets}
 use Rattle.fields.specs.Bytes.{Bytes, part, same, bytes_of, pieces, numbers_bytes}
 use Rattle.fields.specs.Checks.{Verdict, Passes, Fails}
@@ -59,6 +61,11 @@ marks s t = map (changed s t) mended_fields
 pub record Mended : Type 0 where
   pub verdict : Verdict
   pub marks : List Bool
+
+-- what the code answers: the marks, or a refusal, which marks nothing
+abbrev pub mended_of : Result (List Bool) Refusal → Mended
+mended_of (Ok marks) = record { verdict = Passes; marks = marks }
+mended_of (Err r) = record { verdict = Fails (refusal_number r); marks = replicate 12 false }
 
 -- ---- the answer, and the file afterwards
 

@@ -5,20 +5,13 @@ ghost use Rattle.fields.specs.Checks.{Passes};
 ghost use Rattle.lasfile.specs.HeaderFields.{header_block, format};
 ghost use Rattle.lasfile.specs.FileChecks.{mend_verdict};
 ghost use Rattle.tally.specs.Tally.{tally_of, CountsUpTo};
-ghost use Rattle.editor.specs.Mend.{mended_count, mended_points, mend, differs, AllFit, six_differ, marks_for};
+ghost use Rattle.editor.specs.Mend.{mended_of, mended_count, mended_points, mend, differs, AllFit, six_differ, marks_for};
 
-use fields::{Verdict, numbers, slices};
+use fields::refusal::Refusal;
+use fields::{numbers, slices};
 use lasfile::header;
 use scaling::{Bounds, Scaling};
 use tally::{Tally, in_header};
-
-// The first check that fails; and whether the bytes of each mended field changed: number of points, points by return 1
-// to 5, max X, min X, max Y, min Y, max Z, min Z.
-#[derive(Clone, Copy)]
-pub struct Mended {
-    pub verdict: Verdict,
-    pub marks: [bool; 12],
-}
 
 // The smaller of the stated number of points and the whole records that fit after the point offset, so that a stated
 // number costs no more than the bytes that are there.
@@ -90,24 +83,17 @@ fn marks_for(file: &[u8], t: Tally, b: Bounds) -> [bool; 12]
     ]
 }
 
-// Mends a file in place: number of points, points by return and bounds become those of the points that are there.
-pub fn mend(file: &mut [u8]) -> Mended
-    ensures { (result, file.new) ≡ mend file.old }
+// Mends a file in place: number of points, points by return and bounds become those of the points that are there. Says
+// of each of the twelve fields whether its bytes changed: number of points, points by return 1 to 5, max X, min X, max
+// Y, min Y, max Z, min Z.
+pub fn mend(file: &mut [u8]) -> Result<[bool; 12], Refusal>
+    ensures { (mended_of result, file.new) ≡ mend file.old }
 {
-    let verdict = lasfile::check_mendable(file);
-    if let Verdict::Fails(_) = verdict {
-        return Mended {
-            verdict,
-            marks: [false; 12],
-        };
-    }
+    lasfile::check_mendable(file)?;
     let tally = tally_there(file);
     let bounds = tally::tally_bounds(tally, Scaling::read(file));
     let marks = marks_for(file, tally, bounds);
     in_header::put_counts(file, tally.count, tally.bins);
     in_header::put_bounds(file, bounds);
-    Mended {
-        verdict: Verdict::Passes,
-        marks,
-    }
+    Ok(marks)
 }
