@@ -1,14 +1,23 @@
-// Answers of the library as structs of numbers with C's layout: the refusal's number first, 0 where it is accepted.
+// Answers of the library as structs of numbers with C's layout: the refusal's number first, 0 where it is accepted. On a
+// refusal the other numbers are 0, but for the length that an output would need.
 ghost use Rattle.std.specs.Prelude.{◌≡◌};
 ghost use Rattle.fields.specs.Checks.{number_of};
+ghost use Rattle.fields.specs.Refusals.{verdict_of, by_number};
+ghost use Rattle.sheet.specs.Keeping.{kept_by};
+ghost use Rattle.sheet.specs.Keeping as kept;
+ghost use Rattle.sheet.specs.Tests.{tested_by};
+ghost use Rattle.sheet.specs.Tests as tested;
+ghost use Rattle.publicpart.specs.Answers.{answer_of};
+ghost use Rattle.publicpart.specs.Cutting as listed;
+ghost use Rattle.editor.specs.Mend.{mended_of};
 ghost use Rattle.capi.specs.Answers.{released_numbers, listed_numbers, kept_numbers, tested_numbers, mark_numbers, mended_numbers};
 
-use editor::mend;
-use fields::refusals;
-use sheet::answers;
+use fields::refusal::Refusal;
+use publicpart::{ReleaseError, Released};
+use sheet::lookup::Searched;
 
 #[repr(C)]
-#[derive(Clone, Copy)]
+#[derive(Clone, Copy, Debug, Default, PartialEq, Eq)]
 pub struct las_released {
     pub number: u64,
     pub length: u64,
@@ -17,21 +26,21 @@ pub struct las_released {
 }
 
 #[repr(C)]
-#[derive(Clone, Copy)]
+#[derive(Clone, Copy, Debug, Default, PartialEq, Eq)]
 pub struct las_listed {
     pub number: u64,
     pub lines: u64,
 }
 
 #[repr(C)]
-#[derive(Clone, Copy)]
+#[derive(Clone, Copy, Debug, Default, PartialEq, Eq)]
 pub struct las_kept {
     pub number: u64,
     pub kept: u64,
 }
 
 #[repr(C)]
-#[derive(Clone, Copy)]
+#[derive(Clone, Copy, Debug, Default, PartialEq, Eq)]
 pub struct las_class_line {
     pub number: u64,
     pub kept: u64,
@@ -39,102 +48,104 @@ pub struct las_class_line {
 }
 
 #[repr(C)]
-#[derive(Clone, Copy)]
+#[derive(Clone, Copy, Debug, Default, PartialEq, Eq)]
 pub struct las_mended {
     pub number: u64,
     pub marks: [u64; 12],
 }
 
-// The number of a verdict.
-pub(crate) fn number_of(verdict: fields::Verdict) -> u64
-    ensures { result ≡ number_of verdict }
+// The number of a check.
+#[tactic(auto, unfolding(fields::specs::Checks::number_of))]
+pub(crate) fn number_of(checked: Result<(), Refusal>) -> u64
+    ensures { result ≡ number_of (verdict_of checked) }
 {
-    match verdict {
-        fields::Verdict::Passes => 0,
-        fields::Verdict::Fails(number) => number,
-    }
-}
-
-fn released(length: usize, points: usize, records: usize) -> las_released
-    ensures { result ≡ record { number = 0; length = length; points = points; records = records } }
-{
-    las_released {
-        number: 0,
-        length: length as u64,
-        points: points as u64,
-        records: records as u64,
-    }
-}
-
-// A refusal, with the length that an output would need.
-fn refused(number: u64, needed: usize) -> las_released
-    ensures { result ≡ record { number = number; length = needed; points = 0; records = 0 } }
-{
-    las_released {
-        number,
-        length: needed as u64,
-        points: 0,
-        records: 0,
+    match checked {
+        Ok(()) => 0,
+        Err(refusal) => refusal.number(),
     }
 }
 
 // The numbers of a release.
-pub(crate) fn released_numbers(answer: publicpart::Answer) -> las_released
-    ensures { result ≡ released_numbers answer }
-{
-    match answer {
-        publicpart::Answer::Released(length, points, records) => released(length, points, records),
-        publicpart::Answer::Short(needed) => refused(Refusal::OutputTooShort, needed),
-        publicpart::Answer::Refused(number) => refused(number, 0),
+#[tactic(auto, unfolding(crate::specs::Answers::released_numbers))]
+impl From<Result<Released, ReleaseError>> for las_released {
+    ghost from_gives = { λ answer numbers. numbers ≡ released_numbers (answer_of answer) };
+
+    fn from(answer: Result<Released, ReleaseError>) -> las_released {
+        match answer {
+            Ok(released) => las_released {
+                number: 0,
+                length: released.length as u64,
+                points: released.points as u64,
+                records: released.records as u64,
+            },
+            Err(ReleaseError::OutputTooShort(needed)) => las_released {
+                number: 30,
+                length: needed as u64,
+                ..las_released::default()
+            },
+            Err(ReleaseError::Refused(refusal)) => las_released {
+                number: refusal.number(),
+                ..las_released::default()
+            },
+        }
     }
 }
 
 // The numbers of a cutting list.
-pub(crate) fn listed_numbers(listed: publicpart::Listed) -> las_listed
-    ensures { result ≡ listed_numbers listed }
-{
-    match listed {
-        publicpart::Listed::Lines(lines) => las_listed {
-            number: 0,
-            lines: lines as u64,
-        },
-        publicpart::Listed::Refused(number) => las_listed { number, lines: 0 },
+#[tactic(auto, unfolding(crate::specs::Answers::listed_numbers))]
+impl From<Result<usize, Refusal>> for las_listed {
+    ghost from_gives = { λ answer numbers. numbers ≡ listed_numbers (by_number listed.Lines listed.Refused answer) };
+
+    fn from(answer: Result<usize, Refusal>) -> las_listed {
+        match answer {
+            Ok(lines) => las_listed {
+                number: 0,
+                lines: lines as u64,
+            },
+            Err(refusal) => las_listed {
+                number: refusal.number(),
+                lines: 0,
+            },
+        }
     }
 }
 
 // The numbers of what a sheet says of a class or a record.
-pub(crate) fn kept_numbers(kept: answers::Kept) -> las_kept
-    ensures { result ≡ kept_numbers kept }
-{
-    match kept {
-        answers::Kept::Yes => las_kept { number: 0, kept: 1 },
-        answers::Kept::No => las_kept { number: 0, kept: 0 },
-        answers::Kept::Refused(number) => las_kept { number, kept: 0 },
-    }
-}
+#[tactic(auto, unfolding(crate::specs::Answers::kept_numbers))]
+impl From<Result<bool, Refusal>> for las_kept {
+    ghost from_gives = { λ answer numbers. numbers ≡ kept_numbers (by_number kept_by kept.Refused answer) };
 
-fn class_line(kept: u64, lines: u8) -> las_class_line
-    ensures { result ≡ record { number = 0; kept = kept; lines = lines } }
-{
-    las_class_line {
-        number: 0,
-        kept,
-        lines: lines as u64,
+    fn from(answer: Result<bool, Refusal>) -> las_kept {
+        match answer {
+            Ok(kept) => las_kept {
+                number: 0,
+                kept: u64::from(kept),
+            },
+            Err(refusal) => las_kept {
+                number: refusal.number(),
+                kept: 0,
+            },
+        }
     }
 }
 
 // The numbers of a class test.
-pub(crate) fn tested_numbers(tested: answers::Tested) -> las_class_line
-    ensures { result ≡ tested_numbers tested }
-{
-    match tested {
-        answers::Tested::Held(lines) => class_line(1, lines),
-        answers::Tested::NotHeld(lines) => class_line(0, lines),
-        answers::Tested::Refused(number) => las_class_line {
-            number,
-            kept: 0,
-            lines: 0,
-        },
+#[tactic(auto, unfolding(crate::specs::Answers::tested_numbers))]
+impl From<Result<Searched, Refusal>> for las_class_line {
+    ghost from_gives = { λ answer numbers. numbers ≡ tested_numbers (by_number tested_by tested.Refused answer) };
+
+    fn from(answer: Result<Searched, Refusal>) -> las_class_line {
+        match answer {
+            Ok(searched) => las_class_line {
+                number: 0,
+                kept: u64::from(searched.found),
+                lines: u64::from(searched.lines),
+            },
+            Err(refusal) => las_class_line {
+                number: refusal.number(),
+                ..las_class_line::default()
+            },
+        }
     }
 }
 
@@ -159,12 +170,20 @@ fn mark_numbers(m: [bool; 12]) -> [u64; 12]
 }
 
 // The numbers of a mending.
-pub(crate) fn mended_numbers(answer: mend::Mended) -> las_mended
-    ensures { result ≡ mended_numbers answer }
-{
-    let verdict = answer.verdict;
-    let given = answer.marks;
-    let number = number_of(verdict);
-    let marks = mark_numbers(given);
-    las_mended { number, marks }
+#[tactic(auto, unfolding(crate::specs::Answers::mended_numbers, crate::specs::Answers::mark_numbers, fields::specs::Checks::number_of))]
+impl From<Result<[bool; 12], Refusal>> for las_mended {
+    ghost from_gives = { λ answer numbers. numbers ≡ mended_numbers (mended_of answer) };
+
+    fn from(answer: Result<[bool; 12], Refusal>) -> las_mended {
+        match answer {
+            Ok(marks) => las_mended {
+                number: 0,
+                marks: mark_numbers(marks),
+            },
+            Err(refusal) => las_mended {
+                number: refusal.number(),
+                ..las_mended::default()
+            },
+        }
+    }
 }

@@ -1,14 +1,17 @@
 // A header as a struct of numbers with C's layout.
 ghost use Rattle.std.specs.Prelude.{◌≡◌};
 ghost use Rattle.publicpart.specs.Bounds.{bound_numbers};
-ghost use Rattle.capi.specs.HeaderAnswers.{by_return_numbers, scale_numbers, offset_numbers, no_header, found_header, header_numbers};
+ghost use Rattle.fields.specs.Refusals.{by_number};
+ghost use Rattle.reader.specs.Header.{Fields, Refused};
+ghost use Rattle.capi.specs.HeaderAnswers.{by_return_numbers, scale_numbers, offset_numbers, found_header, header_numbers};
 
+use fields::refusal::Refusal;
 use reader::header;
 use scaling::doubles::bits_of;
 
 // Scales, offsets and bounds are the 64 bits of doubles, in the header's own order.
 #[repr(C)]
-#[derive(Clone, Copy)]
+#[derive(Clone, Copy, Debug, Default, PartialEq, Eq)]
 pub struct las_header {
     pub number: u64,
     pub file_source_id: u64,
@@ -63,36 +66,6 @@ fn bound_numbers(b: scaling::Bounds) -> [u64; 6]
     [b.max_x, b.min_x, b.max_y, b.min_y, b.max_z, b.min_z]
 }
 
-fn no_header(number: u64) -> las_header
-    ensures { result ≡ no_header number }
-{
-    las_header {
-        number,
-        file_source_id: 0,
-        global_encoding: 0,
-        guid_1: 0,
-        guid_2: 0,
-        guid_3: 0,
-        guid_4: 0,
-        major: 0,
-        minor: 0,
-        system_length: 0,
-        software_length: 0,
-        day: 0,
-        year: 0,
-        header_size: 0,
-        point_offset: 0,
-        vlr_count: 0,
-        point_format: 0,
-        record_length: 0,
-        point_count: 0,
-        by_return: [0; 5],
-        scale: [0; 3],
-        offset: [0; 3],
-        bounds: [0; 6],
-    }
-}
-
 fn found_header(h: header::Header) -> las_header
     ensures { result ≡ found_header h }
 {
@@ -128,11 +101,17 @@ fn found_header(h: header::Header) -> las_header
 }
 
 // The numbers of a header.
-pub(crate) fn header_numbers(answer: header::HeaderRead) -> las_header
-    ensures { result ≡ header_numbers answer }
-{
-    match answer {
-        header::HeaderRead::Fields(h) => found_header(h),
-        header::HeaderRead::Refused(number) => no_header(number),
+#[tactic(auto, unfolding(crate::specs::HeaderAnswers::header_numbers, crate::specs::HeaderAnswers::no_header))]
+impl From<Result<header::Header, Refusal>> for las_header {
+    ghost from_gives = { λ answer numbers. numbers ≡ header_numbers (by_number Fields Refused answer) };
+
+    fn from(answer: Result<header::Header, Refusal>) -> las_header {
+        match answer {
+            Ok(header) => found_header(header),
+            Err(refusal) => las_header {
+                number: refusal.number(),
+                ..las_header::default()
+            },
+        }
     }
 }

@@ -1,12 +1,17 @@
 // A point as a struct of numbers with C's layout, and back.
 ghost use Rattle.std.specs.Prelude.{◌≡◌};
-ghost use Rattle.capi.specs.PointAnswers.{found_point, no_point, point_numbers, decoded_numbers, given_point};
+ghost use Rattle.fields.specs.Refusals.{by_number};
+ghost use Rattle.points.specs.Points.{Fields, Refused};
+ghost use Rattle.reader.specs.OnePoint.{At};
+ghost use Rattle.reader.specs.OnePoint as one;
+ghost use Rattle.capi.specs.PointAnswers.{found_point, point_numbers, decoded_numbers, given_point};
 
-use reader::point;
+use fields::refusal::Refusal;
+use points::Point;
 
 // The flags are 0 or 1 in an answer; in a point that is given, anything but 0 is yes.
 #[repr(C)]
-#[derive(Clone, Copy)]
+#[derive(Clone, Copy, Debug, Default, PartialEq, Eq)]
 pub struct las_point {
     pub number: u64,
     pub place: u64,
@@ -32,7 +37,7 @@ pub struct las_point {
 }
 
 // The numbers of a point and of its record's place.
-fn found_point(place: usize, point: points::Point) -> las_point
+fn found_point(place: usize, point: Point) -> las_point
     ensures { result ≡ found_point place point }
 {
     las_point {
@@ -60,77 +65,63 @@ fn found_point(place: usize, point: points::Point) -> las_point
     }
 }
 
-fn no_point(number: u64) -> las_point
-    ensures { result ≡ no_point number }
-{
-    las_point {
-        number,
-        place: 0,
-        gps_time: 0,
-        x: 0,
-        y: 0,
-        z: 0,
-        intensity: 0,
-        source_id: 0,
-        red: 0,
-        green: 0,
-        blue: 0,
-        return_number: 0,
-        returns: 0,
-        classification: 0,
-        user_data: 0,
-        scan_direction: 0,
-        edge: 0,
-        scan_angle: 0,
-        synthetic: 0,
-        key_point: 0,
-        withheld: 0,
-    }
-}
-
 // The numbers of one point of a file.
-pub(crate) fn point_numbers(answer: point::PointAt) -> las_point
-    ensures { result ≡ point_numbers answer }
-{
-    match answer {
-        point::PointAt::At(place, point) => found_point(place, point),
-        point::PointAt::Refused(number) => no_point(number),
+#[tactic(auto, unfolding(crate::specs::PointAnswers::point_numbers, crate::specs::PointAnswers::no_point))]
+impl From<Result<(usize, Point), Refusal>> for las_point {
+    ghost from_gives = { λ answer numbers. numbers ≡ point_numbers (by_number (λ x. At x.0 x.1) one.Refused answer) };
+
+    fn from(answer: Result<(usize, Point), Refusal>) -> las_point {
+        match answer {
+            Ok((place, point)) => found_point(place, point),
+            Err(refusal) => las_point {
+                number: refusal.number(),
+                ..las_point::default()
+            },
+        }
     }
 }
 
 // The numbers of a point that was decoded, which lies at no place.
-pub(crate) fn decoded_numbers(answer: points::Decoded) -> las_point
-    ensures { result ≡ decoded_numbers answer }
-{
-    match answer {
-        points::Decoded::Fields(point) => found_point(0, point),
-        points::Decoded::Refused(number) => no_point(number),
+#[tactic(auto, unfolding(crate::specs::PointAnswers::decoded_numbers, crate::specs::PointAnswers::no_point))]
+impl From<Result<Point, Refusal>> for las_point {
+    ghost from_gives = { λ answer numbers. numbers ≡ decoded_numbers (by_number Fields Refused answer) };
+
+    fn from(answer: Result<Point, Refusal>) -> las_point {
+        match answer {
+            Ok(point) => found_point(0, point),
+            Err(refusal) => las_point {
+                number: refusal.number(),
+                ..las_point::default()
+            },
+        }
     }
 }
 
 // The point that is given to be encoded: its number and place are not looked at.
-pub(crate) fn given_point(point: las_point) -> points::Point
-    ensures { result ≡ given_point point }
-{
-    points::Point {
-        x: point.x,
-        y: point.y,
-        z: point.z,
-        intensity: point.intensity,
-        return_number: point.return_number,
-        returns: point.returns,
-        scan_direction: point.scan_direction != 0,
-        edge: point.edge != 0,
-        classification: point.classification,
-        scan_angle: point.scan_angle,
-        user_data: point.user_data,
-        source_id: point.source_id,
-        gps_time: point.gps_time,
-        red: point.red,
-        green: point.green,
-        blue: point.blue,
-        synthetic: point.synthetic != 0,
-        key_point: point.key_point != 0,
-        withheld: point.withheld != 0,
+impl From<las_point> for Point {
+    ghost from_gives = { λ point given. given ≡ given_point point };
+
+    fn from(point: las_point) -> Point {
+        Point {
+            x: point.x,
+            y: point.y,
+            z: point.z,
+            intensity: point.intensity,
+            return_number: point.return_number,
+            returns: point.returns,
+            scan_direction: point.scan_direction != 0,
+            edge: point.edge != 0,
+            classification: point.classification,
+            scan_angle: point.scan_angle,
+            user_data: point.user_data,
+            source_id: point.source_id,
+            gps_time: point.gps_time,
+            red: point.red,
+            green: point.green,
+            blue: point.blue,
+            synthetic: point.synthetic != 0,
+            key_point: point.key_point != 0,
+            withheld: point.withheld != 0,
+        }
     }
 }

@@ -1,13 +1,19 @@
 // What is found in a file's records, as structs of numbers with C's layout: a step of the walk, and a GeoKey.
 ghost use Rattle.std.specs.Prelude.{◌≡◌};
-ghost use Rattle.capi.specs.RecordAnswers.{found_record, no_record, record_numbers, geokey_numbers, read_numbers};
+ghost use Rattle.fields.specs.Refusals.{by_number};
+ghost use Rattle.reader.specs.Steps.{Record};
+ghost use Rattle.reader.specs.Steps as step;
+ghost use Rattle.geokeys.specs.GeoKeys as key;
+ghost use Rattle.geokeys.specs.Values.{geokey_of, read_of};
+ghost use Rattle.capi.specs.RecordAnswers.{found_record, record_numbers, geokey_numbers, read_numbers};
 
+use fields::refusal::Refusal;
 use geokeys::halving::KeyRead;
-use geokeys::{DOUBLES, TEXTS};
-use reader::cursor;
+use geokeys::{DOUBLES, KeyValue, TEXTS};
+use reader::cursor::{RecordPlaces, VlrCursor};
 
 #[repr(C)]
-#[derive(Clone, Copy)]
+#[derive(Clone, Copy, Debug, Default, PartialEq, Eq)]
 pub struct las_record {
     pub number: u64,
     pub user_place: u64,
@@ -22,7 +28,7 @@ pub struct las_record {
 }
 
 #[repr(C)]
-#[derive(Clone, Copy)]
+#[derive(Clone, Copy, Debug, Default, PartialEq, Eq)]
 pub struct las_geokey {
     pub number: u64,
     pub location: u64,
@@ -32,7 +38,7 @@ pub struct las_geokey {
 
 // What a lookup by halving finds, and how many entries it read.
 #[repr(C)]
-#[derive(Clone, Copy)]
+#[derive(Clone, Copy, Debug, Default, PartialEq, Eq)]
 pub struct las_geokey_read {
     pub number: u64,
     pub location: u64,
@@ -42,7 +48,7 @@ pub struct las_geokey_read {
 }
 
 // The numbers of a record, and of the cursor after it.
-fn found_record(places: cursor::RecordPlaces, next: cursor::VlrCursor) -> las_record
+fn found_record(places: RecordPlaces, next: VlrCursor) -> las_record
     ensures { result ≡ found_record places next }
 {
     las_record {
@@ -59,30 +65,19 @@ fn found_record(places: cursor::RecordPlaces, next: cursor::VlrCursor) -> las_re
     }
 }
 
-fn no_record(number: u64) -> las_record
-    ensures { result ≡ no_record number }
-{
-    las_record {
-        number,
-        user_place: 0,
-        user_length: 0,
-        record_id: 0,
-        description_place: 0,
-        description_length: 0,
-        payload_place: 0,
-        payload_length: 0,
-        next_index: 0,
-        next_position: 0,
-    }
-}
-
 // The numbers of one step of the walk.
-pub(crate) fn record_numbers(step: cursor::Step) -> las_record
-    ensures { result ≡ record_numbers step }
-{
-    match step {
-        cursor::Step::Record(places, next) => found_record(places, next),
-        cursor::Step::Refused(number) => no_record(number),
+#[tactic(auto, unfolding(crate::specs::RecordAnswers::record_numbers, crate::specs::RecordAnswers::no_record))]
+impl From<Result<(RecordPlaces, VlrCursor), Refusal>> for las_record {
+    ghost from_gives = { λ answer numbers. numbers ≡ record_numbers (by_number (λ x. Record x.0 x.1) step.Refused answer) };
+
+    fn from(answer: Result<(RecordPlaces, VlrCursor), Refusal>) -> las_record {
+        match answer {
+            Ok((places, next)) => found_record(places, next),
+            Err(refusal) => las_record {
+                number: refusal.number(),
+                ..las_record::default()
+            },
+        }
     }
 }
 
@@ -98,28 +93,33 @@ fn geokey(number: u64, location: u64, value: u64, length: u64) -> las_geokey
 }
 
 // The numbers of a lookup.
-pub(crate) fn geokey_numbers(found: geokeys::GeoKey) -> las_geokey
-    ensures { result ≡ geokey_numbers found }
-{
-    match found {
-        geokeys::GeoKey::Value(value) => geokey(0, 0, value, 0),
-        geokeys::GeoKey::Double(bits) => geokey(0, DOUBLES, bits, 0),
-        geokeys::GeoKey::Text(place, length) => geokey(0, TEXTS, place as u64, length as u64),
-        geokeys::GeoKey::Refused(number) => geokey(number, 0, 0, 0),
+#[tactic(auto, unfolding(crate::specs::RecordAnswers::geokey_numbers))]
+impl From<Result<KeyValue, Refusal>> for las_geokey {
+    ghost from_gives = { λ found numbers. numbers ≡ geokey_numbers (by_number geokey_of key.Refused found) };
+
+    fn from(found: Result<KeyValue, Refusal>) -> las_geokey {
+        match found {
+            Ok(KeyValue::Number(value)) => geokey(0, 0, value, 0),
+            Ok(KeyValue::Double(bits)) => geokey(0, DOUBLES, bits, 0),
+            Ok(KeyValue::Text(place, length)) => geokey(0, TEXTS, place as u64, length as u64),
+            Err(refusal) => geokey(refusal.number(), 0, 0, 0),
+        }
     }
 }
 
 // The numbers of a lookup by halving.
-pub(crate) fn read_numbers(read: KeyRead) -> las_geokey_read
-    ensures { result ≡ read_numbers read }
-{
-    let found = read.found;
-    let numbers = geokey_numbers(found);
-    las_geokey_read {
-        number: numbers.number,
-        location: numbers.location,
-        value: numbers.value,
-        length: numbers.length,
-        reads: read.reads,
+#[tactic(auto, unfolding(crate::specs::RecordAnswers::read_numbers))]
+impl From<KeyRead> for las_geokey_read {
+    ghost from_gives = { λ read numbers. numbers ≡ read_numbers (read_of read) };
+
+    fn from(read: KeyRead) -> las_geokey_read {
+        let numbers = las_geokey::from(read.found);
+        las_geokey_read {
+            number: numbers.number,
+            location: numbers.location,
+            value: numbers.value,
+            length: numbers.length,
+            reads: read.reads,
+        }
     }
 }

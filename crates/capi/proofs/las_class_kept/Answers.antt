@@ -6,4 +6,4 @@ use Rattle.capi.proofs.las_class_kept.Goals as goal
 
 pub returns : goal.returns
 unfolding las_class_kept
-returns c = c.kept_numbers.ensures ∙ ap kept_numbers c.class_kept.ensures
+returns c = c.from.ensures ∙ ap kept_numbers c.class_kept.ensures

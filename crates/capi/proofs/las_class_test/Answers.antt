@@ -6,4 +6,4 @@ use Rattle.capi.proofs.las_class_test.Goals as goal
 
 pub returns : goal.returns
 unfolding las_class_test
-returns c = c.tested_numbers.ensures ∙ ap tested_numbers c.class_test.ensures
+returns c = c.from.ensures ∙ ap tested_numbers c.class_test.ensures

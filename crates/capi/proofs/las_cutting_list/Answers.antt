@@ -6,4 +6,4 @@ use Rattle.capi.proofs.las_cutting_list.Goals as goal
 
 pub returns : goal.returns
 unfolding las_cutting_list
-returns c = in_numbers listed_numbers c.listed_numbers.ensures c.cutting_list.ensures
+returns c = in_numbers listed_numbers c.from.ensures c.cutting_list.ensures

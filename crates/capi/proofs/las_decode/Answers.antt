@@ -6,4 +6,4 @@ use Rattle.capi.proofs.las_decode.Goals as goal
 
 pub returns : goal.returns
 unfolding las_decode
-returns c = c.decoded_numbers.ensures ∙ ap decoded_numbers c.decode.ensures
+returns c = c.from.ensures ∙ ap decoded_numbers c.decode.ensures

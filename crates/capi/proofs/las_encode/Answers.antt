@@ -7,4 +7,4 @@ use Rattle.capi.proofs.las_encode.Goals as goal
 
 pub returns : goal.returns
 unfolding las_encode
-returns c = rw (sym c.given_point.ensures) (in_numbers number_of c.number_of.ensures c.encode.ensures)
+returns c = rw (sym c.from.ensures) (in_numbers number_of c.number_of.ensures c.encode.ensures)

@@ -6,4 +6,4 @@ use Rattle.capi.proofs.las_geokey_find.Goals as goal
 
 pub returns : goal.returns
 unfolding las_geokey_find
-returns c = c.geokey_numbers.ensures ∙ ap geokey_numbers c.find.ensures
+returns c = c.from.ensures ∙ ap geokey_numbers c.find.ensures

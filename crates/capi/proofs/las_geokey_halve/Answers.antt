@@ -6,4 +6,4 @@ use Rattle.capi.proofs.las_geokey_halve.Goals as goal
 
 pub returns : goal.returns
 unfolding las_geokey_halve
-returns c = c.read_numbers.ensures ∙ ap read_numbers c.find_by_halving.ensures.0
+returns c = c.from.ensures ∙ ap read_numbers c.find_by_halving.ensures.0

@@ -6,4 +6,4 @@ use Rattle.capi.proofs.las_mend.Goals as goal
 
 pub returns : goal.returns
 unfolding las_mend
-returns c = in_numbers mended_numbers c.mended_numbers.ensures c.mend.ensures
+returns c = in_numbers mended_numbers c.from.ensures c.mend.ensures

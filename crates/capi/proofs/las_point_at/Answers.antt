@@ -6,4 +6,4 @@ use Rattle.capi.proofs.las_point_at.Goals as goal
 
 pub returns : goal.returns
 unfolding las_point_at
-returns c = c.point_numbers.ensures ∙ ap point_numbers c.point_at.ensures
+returns c = c.from.ensures ∙ ap point_numbers c.point_at.ensures

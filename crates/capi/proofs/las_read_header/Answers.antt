@@ -6,4 +6,4 @@ use Rattle.capi.proofs.las_read_header.Goals as goal
 
 pub returns : goal.returns
 unfolding las_read_header
-returns c = c.header_numbers.ensures ∙ ap header_numbers c.read_header.ensures
+returns c = c.from.ensures ∙ ap header_numbers c.read_header.ensures

@@ -6,4 +6,4 @@ use Rattle.capi.proofs.las_release.Goals as goal
 
 pub returns : goal.returns
 unfolding las_release
-returns c = in_numbers released_numbers c.released_numbers.ensures c.release.ensures
+returns c = in_numbers released_numbers c.from.ensures c.release.ensures

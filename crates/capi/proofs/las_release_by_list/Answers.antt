@@ -7,6 +7,6 @@ use Rattle.capi.proofs.las_release_by_list.Goals as goal
 pub returns : goal.returns
 unfolding las_release_by_list
 returns c =
-    let e = c.released_numbers.ensures in
+    let e = c.from.ensures in
     let r = c.release_by_list.ensures in
     (λ i. ((e i, c.release_by_list.new.out), c.release_by_list.new.list)) ∙ (λ i. ((released_numbers ((r i).0.0), (r i).0.1), (r i).1))

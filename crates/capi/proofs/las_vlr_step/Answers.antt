@@ -6,4 +6,4 @@ use Rattle.capi.proofs.las_vlr_step.Goals as goal
 
 pub returns : goal.returns
 unfolding las_vlr_step
-returns c = c.record_numbers.ensures ∙ ap record_numbers c.step.ensures
+returns c = c.from.ensures ∙ ap record_numbers c.step.ensures

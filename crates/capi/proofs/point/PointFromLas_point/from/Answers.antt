@@ -1,9 +1,9 @@
--- `point::given_point` meets its contract: a signed field that is copied is the one that was given. Assumes nothing.
+-- `point::Point::from` meets its contract: a signed field that is copied is the one that was given. Assumes nothing.
 use mathlib.Core.Path.{refl}
 use mir.Syntax.{w8, w32}
 use mir.ValLaws.{to_z-of_z}
 use Rattle.capi.specs.PointAnswers.{given_point, yes}
-use Rattle.capi.proofs.point.given_point.Goals as goal
+use Rattle.capi.proofs.point.PointFromLas_point.from.Goals as goal
 
 pub returns : goal.returns
 unfolding given_point yes
