@@ -1,8 +1,9 @@
 // What the program reads: a file by name, as far as it takes to tell whether it is too long.
 ghost use Rattle.std.specs.Prelude.{◌≡◌, ◌+◌, ◌≤◌, ◌<◌, length, take, drop, IfOk, IsErr, IsErrOf, IsOkAnd};
+ghost use Rattle.fields.specs.declared.refusal.Refusal.TheVariants.{FileFailed, InputTooLong};
 ghost use Rattle.std.specs.Io.KnownBytes.{Consumes, IsAtEnd};
 
-use fields::Verdict;
+use fields::refusal::Refusal;
 use lasfile::inputs;
 use std::fs::File;
 use std::io;
@@ -51,29 +52,26 @@ fn read_file<R: Files>(rt: &R, path: &str, buf: &mut [u8; ROOM]) -> io::Result<u
     read_to_end(&mut file, buf)
 }
 
-// The bytes that were read, or the number of the refusal: 51 where the read failed, 50 where they are more than a file
-// may have.
+// The bytes that were read; refused where the read failed (51), and where they are more than a file may have (50).
 #[tactic(auto, unfolding(lasfile::specs::Inputs::input_checks, fields::specs::Checks::first_failing, fields::specs::Checks::fail_if, fields::specs::Checks::fails))]
-fn accepted(read: io::Result<usize>, room: &[u8; ROOM]) -> Result<&[u8], u64>
-    ensures failed { IsErr read → IsErrOf result 51 }
-    ensures too_long { IfOk read (λ n. 32768 < n → IsErrOf result 50) }
+fn accepted(read: io::Result<usize>, room: &[u8; ROOM]) -> Result<&[u8], Refusal>
+    ensures failed { IsErr read → IsErrOf result FileFailed }
+    ensures too_long { IfOk read (λ n. 32768 < n → IsErrOf result InputTooLong) }
     ensures bytes { IfOk read
         (λ n. n ≤ 32768 → IsOkAnd result (λ bytes. bytes.now ≡ take n room.now)) }
 {
     let is_read = read.is_ok();
     let bytes = &room[..read.unwrap_or(0).min(ROOM)];
-    match inputs::input_verdict(is_read, bytes.len()) {
-        Verdict::Passes => Ok(bytes),
-        Verdict::Fails(number) => Err(number),
-    }
+    inputs::input_verdict(is_read, bytes.len())?;
+    Ok(bytes)
 }
 
-// Reads a file into the room, and answers its bytes, or the number of the refusal.
+// Reads a file into the room, and answers its bytes.
 pub(crate) fn read<'a, R: Files>(
     rt: &R,
     path: &str,
     room: &'a mut [u8; ROOM],
-) -> Result<&'a [u8], u64> {
+) -> Result<&'a [u8], Refusal> {
     let read = read_file(rt, path, room);
     accepted(read, room)
 }

@@ -7,60 +7,47 @@ mod output;
 
 ghost use Rattle.std.specs.Prelude.{Some, ◌++◌, codes, decimal};
 
-use fields::{refusals, slices};
-use publicpart::Answer;
+use fields::refusal::Refusal;
+use fields::slices;
+use publicpart::{ReleaseError, Released};
 use std::rt::Files;
 use std::{fmt, io};
 
-// What was released: the length of out.las, its points and its records.
-#[derive(Drop)]
-struct Released {
-    length: usize,
-    points: usize,
-    records: usize,
-}
+// The line for what was released: the length of out.las, its points and its records.
+#[derive(Clone, Copy, Debug)]
+struct Line(Released);
 
-impl fmt::Display for Released {
-    ghost output = { λ s. Some (codes "released " ++ (decimal s.length ++ (codes " points "
-        ++ (decimal s.points ++ (codes " records " ++ decimal s.records))))) };
+impl fmt::Display for Line {
+    ghost output = { λ s. Some (codes "released " ++ (decimal s.0.length ++ (codes " points "
+        ++ (decimal s.0.points ++ (codes " records " ++ decimal s.0.records))))) };
 
     fn fmt<W: fmt::Write>(&self, f: &mut fmt::Formatter<W>) -> fmt::Result {
         write!(
             f,
             "released {} points {} records {}",
-            self.length, self.points, self.records
+            self.0.length, self.0.points, self.0.records
         )
     }
 }
 
-// Releases in.las under sheet.bin, or answers the number of the refusal. The output is as long as a file may be, so
-// that it is never too short.
-fn release_folder<R: Files>(rt: &R) -> Result<Released, u64> {
+// Releases in.las under sheet.bin. The output is as long as a file may be, so that it is never too short.
+fn release_folder<R: Files>(rt: &R) -> Result<Released, ReleaseError> {
     let mut file_room = [0u8; input::ROOM];
     let file = input::read(rt, "in.las", &mut file_room)?;
     let mut sheet_room = [0u8; input::ROOM];
     let sheet = input::read(rt, "sheet.bin", &mut sheet_room)?;
     let mut out = [0u8; 32768];
-    match release::release(file, sheet, &mut out) {
-        Answer::Released(length, points, records) => {
-            if output::save(rt, slices::part_at(&out, 0, length)).is_err() {
-                return Err(Refusal::FileFailed);
-            }
-            Ok(Released {
-                length,
-                points,
-                records,
-            })
-        }
-        Answer::Short(_) => Err(Refusal::OutputTooShort),
-        Answer::Refused(number) => Err(number),
+    let released = release::release(file, sheet, &mut out)?;
+    match output::save(rt, slices::part_at(&out, 0, released.length)) {
+        Ok(()) => Ok(released),
+        Err(_) => Err(ReleaseError::from(Refusal::FileFailed)),
     }
 }
 
 // Prints the line by one call, so that it comes out whole.
 fn main(rt: HostRuntime) -> io::Result<()> {
     match release_folder(&rt) {
-        Ok(released) => println!(rt; "{released}"),
-        Err(number) => println!(rt; "refused {number}"),
+        Ok(released) => println!(rt; "{}", Line(released)),
+        Err(error) => println!(rt; "refused {}", error.number()),
     }
 }

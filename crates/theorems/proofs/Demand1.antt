@@ -31,9 +31,7 @@ use Rattle.geokeys.specs.Halving.{Halved, halve, key_read, read_if, lookup_by_ha
 use Rattle.geokeys.proofs.KeyReadLaws.{found_is}
 use Rattle.geokeys.specs.GeoKeys as key
 use Rattle.points.specs.Points.{Decoded}
-use Rattle.points.specs.Points as point
 use Rattle.reader.specs.Header.{HeaderRead}
-use Rattle.reader.specs.Header as read
 use Rattle.reader.specs.Steps as step
 use Rattle.reader.specs.OnePoint as place
 use Rattle.sheet.specs.Keeping as sheet_kept
@@ -338,8 +336,8 @@ listed_released file sheet out list =
 
 header_zeros : (a : HeaderRead) (n : ℕ) → (header_numbers a).number ≡ suc n → header_numbers a ≡ no_header (suc n)
 unfolding header_numbers found_header no_header
-header_zeros (read.Fields h) n e = absurd (omega arith)
-header_zeros (read.Refused m) n e = ap no_header e
+header_zeros (header.Fields h) n e = absurd (omega arith)
+header_zeros (header.Refused m) n e = ap no_header e
 
 step_zeros : (a : Step) (n : ℕ) → (record_numbers a).number ≡ suc n → record_numbers a ≡ no_record (suc n)
 unfolding record_numbers found_record no_record
@@ -353,8 +351,8 @@ point_zeros (place.Refused m) n e = ap no_point e
 
 decoded_zeros : (a : Decoded) (n : ℕ) → (decoded_numbers a).number ≡ suc n → decoded_numbers a ≡ no_point (suc n)
 unfolding decoded_numbers found_point no_point
-decoded_zeros (point.Fields p) n e = absurd (omega arith)
-decoded_zeros (point.Refused m) n e = ap no_point e
+decoded_zeros (points.Fields p) n e = absurd (omega arith)
+decoded_zeros (points.Refused m) n e = ap no_point e
 
 kept_zeros : (a : Kept) (n : ℕ) → (kept_numbers a).number ≡ suc n → kept_numbers a ≡ record { number = suc n; kept = 0 }
 unfolding kept_numbers
