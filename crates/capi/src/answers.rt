@@ -79,7 +79,7 @@ impl From<Result<Released, ReleaseError>> for las_released {
                 records: released.records as u64,
             },
             Err(ReleaseError::OutputTooShort(needed)) => las_released {
-                number: 30,
+                number: Refusal::OutputTooShort.number(),
                 length: needed as u64,
                 ..las_released::default()
             },

@@ -4,7 +4,7 @@ use mathlib.Core.Path.{◌≡◌, refl}
 use native.Mathlib.Omega.{arith}
 use Rattle.fields.specs.Refusals.{refusal_number}
 use Rattle.fields.specs.declared.refusal.Refusal.{Refusal}
-use Rattle.fields.specs.declared.refusal.Refusal.TheVariants.{FileTooShort, BadSignature, BadVersion, BadHeaderSize, BadFormat, BadRecordLength, BadPointOffset, RecordsPastOffset, PointsPastEnd, BadScaling, NoPoint, BadShape, FieldTooLarge, NoRecord, BadMark, BadKind, LineCut, LowAboveHigh, TooManyLines, ListTooShort, NoDirectory, BadDirectory, NoKey, BadLocation, BadCount, NoParameters, ValuePastEnd, InputTooLong, FileFailed}
+use Rattle.fields.specs.declared.refusal.Refusal.TheVariants.{FileTooShort, BadSignature, BadVersion, BadHeaderSize, BadFormat, BadRecordLength, BadPointOffset, RecordsPastOffset, PointsPastEnd, BadScaling, NoPoint, BadShape, FieldTooLarge, NoRecord, BadMark, BadKind, LineCut, LowAboveHigh, TooManyLines, OutputTooShort, ListTooShort, NoDirectory, BadDirectory, NoKey, BadLocation, BadCount, NoParameters, ValuePastEnd, InputTooLong, FileFailed}
 
 pub only_9 : (r : Refusal) → refusal_number r ≡ 9 → r ≡ PointsPastEnd
 only_9 FileTooShort e = absurd (omega arith)
@@ -26,6 +26,7 @@ only_9 BadKind e = absurd (omega arith)
 only_9 LineCut e = absurd (omega arith)
 only_9 LowAboveHigh e = absurd (omega arith)
 only_9 TooManyLines e = absurd (omega arith)
+only_9 OutputTooShort e = absurd (omega arith)
 only_9 ListTooShort e = absurd (omega arith)
 only_9 NoDirectory e = absurd (omega arith)
 only_9 BadDirectory e = absurd (omega arith)

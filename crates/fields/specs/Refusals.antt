@@ -3,7 +3,7 @@
 use Rattle.std.specs.Prelude.{ℕ, List, codes, Result, Ok, Err, ⊤}
 use Rattle.fields.specs.Checks.{Verdict, Passes, Fails}
 use Rattle.fields.specs.declared.refusal.Refusal.{Refusal}
-use Rattle.fields.specs.declared.refusal.Refusal.TheVariants.{FileTooShort, BadSignature, BadVersion, BadHeaderSize, BadFormat, BadRecordLength, BadPointOffset, RecordsPastOffset, PointsPastEnd, BadScaling, NoPoint, BadShape, FieldTooLarge, NoRecord, BadMark, BadKind, LineCut, LowAboveHigh, TooManyLines, ListTooShort, NoDirectory, BadDirectory, NoKey, BadLocation, BadCount, NoParameters, ValuePastEnd, InputTooLong, FileFailed}
+use Rattle.fields.specs.declared.refusal.Refusal.TheVariants.{FileTooShort, BadSignature, BadVersion, BadHeaderSize, BadFormat, BadRecordLength, BadPointOffset, RecordsPastOffset, PointsPastEnd, BadScaling, NoPoint, BadShape, FieldTooLarge, NoRecord, BadMark, BadKind, LineCut, LowAboveHigh, TooManyLines, OutputTooShort, ListTooShort, NoDirectory, BadDirectory, NoKey, BadLocation, BadCount, NoParameters, ValuePastEnd, InputTooLong, FileFailed}
 
 -- the number that docs/SPECIFICATION.md gives for a refusal
 abbrev pub refusal_number : Refusal → ℕ
@@ -26,6 +26,7 @@ refusal_number BadKind = 21
 refusal_number LineCut = 22
 refusal_number LowAboveHigh = 23
 refusal_number TooManyLines = 24
+refusal_number OutputTooShort = 30
 refusal_number ListTooShort = 31
 refusal_number NoDirectory = 40
 refusal_number BadDirectory = 41
@@ -58,6 +59,7 @@ refusal_words BadKind = codes "sheet line of an unknown kind"
 refusal_words LineCut = codes "sheet line cut short"
 refusal_words LowAboveHigh = codes "sheet line with its low above its high"
 refusal_words TooManyLines = codes "more than 64 sheet lines"
+refusal_words OutputTooShort = codes "output shorter than the released file"
 refusal_words ListTooShort = codes "list shorter than the kept records and points"
 refusal_words NoDirectory = codes "no GeoKey directory"
 refusal_words BadDirectory = codes "unsound GeoKey directory"

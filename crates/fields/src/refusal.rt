@@ -1,5 +1,5 @@
 // Why a call is refused: a case for each number of the tables in docs/SPECIFICATION.md, which has the conditions and
-// their order. Number 30 is given by a release alone, with the length that is needed: see `publicpart::ReleaseError`.
+// their order.
 ghost use Rattle.std.specs.Prelude.{◌≡◌, Some};
 ghost use Rattle.fields.specs.Refusals.{refusal_number, refusal_words};
 
@@ -46,6 +46,8 @@ pub enum Refusal {
     LowAboveHigh,
     // A 65th line begins.
     TooManyLines,
+    // The output is shorter than the released file: `publicpart::ReleaseError` has the length that is needed.
+    OutputTooShort,
     // The list has fewer lines than there are kept records and points.
     ListTooShort,
     // There is no GeoKey directory.
@@ -93,6 +95,7 @@ impl Refusal {
             Refusal::LineCut => 22,
             Refusal::LowAboveHigh => 23,
             Refusal::TooManyLines => 24,
+            Refusal::OutputTooShort => 30,
             Refusal::ListTooShort => 31,
             Refusal::NoDirectory => 40,
             Refusal::BadDirectory => 41,
@@ -131,6 +134,7 @@ impl fmt::Display for Refusal {
             Refusal::LineCut => "sheet line cut short",
             Refusal::LowAboveHigh => "sheet line with its low above its high",
             Refusal::TooManyLines => "more than 64 sheet lines",
+            Refusal::OutputTooShort => "output shorter than the released file",
             Refusal::ListTooShort => "list shorter than the kept records and points",
             Refusal::NoDirectory => "no GeoKey directory",
             Refusal::BadDirectory => "unsound GeoKey directory",

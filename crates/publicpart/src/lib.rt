@@ -2,8 +2,8 @@
 // specs/. What is code here is what a release answers, and a line of a list.
 #![tactic(auto)]
 
-ghost use Rattle.std.specs.Prelude.{◌≡◌};
-ghost use Rattle.publicpart.specs.Answers.{error_number};
+ghost use Rattle.std.specs.Prelude.{◌≡◌, Some};
+ghost use Rattle.publicpart.specs.Answers.{error_number, error_words};
 ghost use Rattle.publicpart.specs.declared.ReleaseError.TheVariants.{Refused};
 
 use fields::refusal::Refusal;
@@ -28,13 +28,13 @@ pub enum ReleaseError {
 }
 
 impl ReleaseError {
-    // Its number in the tables of docs/SPECIFICATION.md: 30 for a short output.
+    // Its number in the tables of docs/SPECIFICATION.md.
     pub fn number(self) -> u64
         ensures { result ≡ error_number self }
     {
         match self {
             ReleaseError::Refused(refusal) => refusal.number(),
-            ReleaseError::OutputTooShort(_) => 30,
+            ReleaseError::OutputTooShort(_) => Refusal::OutputTooShort.number(),
         }
     }
 }
@@ -48,11 +48,13 @@ impl From<Refusal> for ReleaseError {
 }
 
 impl fmt::Display for ReleaseError {
+    ghost output = { λ e. Some (error_words e) };
+
     fn fmt<W: fmt::Write>(&self, f: &mut fmt::Formatter<W>) -> fmt::Result {
         match *self {
             ReleaseError::Refused(refusal) => write!(f, "{refusal}"),
             ReleaseError::OutputTooShort(needed) => {
-                write!(f, "output shorter than the {needed} bytes of the released file")
+                write!(f, "{} of {needed} bytes", Refusal::OutputTooShort)
             }
         }
     }
