@@ -8,10 +8,10 @@ use mathlib.Core.List.{[]}
 use lib.ListN.{length}
 use lib.Dec.{T, eqb, eqb→eq, leb, ltb}
 use borrow.Author.Tests.{eq-eqb, le-leb, leb-true, leb-false, lt-ltb, le-ltb}
+use Rattle.std.specs.Prelude.{Some}
 use Rattle.fields.specs.Bytes.{Bytes}
 use Rattle.fields.specs.Checks.{fails, first_failing}
 use Rattle.fields.proofs.CheckLaws.{clear, gives, goes_on, unclear}
-use Rattle.points.specs.declared.formats.Place.TheVariants.{At}
 use Rattle.points.specs.declared.layouts.Layout.{Layout}
 use Rattle.points.specs.Formats.{format_size, time_place, colour_place, layout_of}
 use Rattle.points.specs.declared.Point.{Point}
@@ -68,11 +68,11 @@ shape_found f len n r e h = shape_holds f len n (shaped r (fails (shape f len n)
 
 -- the fields that only some formats have, in n bytes that are as many as the format's or more
 module _ (f n : ℕ) (h : (f ≤ 3) × (format_size f ≤ n)) (l : Layout) (is : l ≡ layout_of f) (at : ℕ) where
-  pub time_there : l.time ≡ At at → at + 8 ≤ n
+  pub time_there : l.time ≡ Some at → at + 8 ≤ n
   unfolding layout_of
   time_there k = omega (arith, time_held f at h.0 (sym (ap (λ (x : Layout). x.time) is) ∙ k))
 
-  pub colour_there : l.colour ≡ At at → at + 6 ≤ n
+  pub colour_there : l.colour ≡ Some at → at + 6 ≤ n
   unfolding layout_of
   colour_there k = omega (arith, colour_held f at h.0 (sym (ap (λ (x : Layout). x.colour) is) ∙ k))
 

@@ -1,13 +1,11 @@
 -- The bytes of a point's fields, and what encoding gives.
 -- Assumes nothing.
-use Rattle.std.specs.Prelude.{ℕ, ◌^◌, ◌<◌, ◌+◌, ◌*◌, List, [], ◌∷◌, ◌++◌, length}
+use Rattle.std.specs.Prelude.{ℕ, ◌^◌, ◌<◌, ◌+◌, ◌*◌, List, [], ◌∷◌, ◌++◌, length, Option, Some, None}
 use Rattle.std.proofs.lemmas.List.Edits.{sets}
 use Rattle.std.specs.Int.{w8, w32}
 use mir.Val.{SFits, of_z, bool_byte}
 use Rattle.fields.specs.Bytes.{Bytes, bytes_of, join}
 use Rattle.fields.specs.Checks.{Test, Check, ◌below◌, ◌or◌, first_failing, Verdict, Passes, Fails}
-use Rattle.points.specs.declared.formats.Place.{Place}
-use Rattle.points.specs.declared.formats.Place.TheVariants.{At, Absent}
 use Rattle.points.specs.Formats.{time_place, colour_place}
 use Rattle.points.specs.declared.Point.{Point}
 use Rattle.points.specs.Points.{shape}
@@ -36,17 +34,17 @@ shared_fields f q =
     ∷ []
 
 -- fields that a format has, or none of them
-unfoldable pub if_placed : Place → List Bytes → List Bytes
-if_placed Absent fs = []
-if_placed (At at) fs = fs
+unfoldable pub if_placed : Option ℕ → List Bytes → List Bytes
+if_placed None fs = []
+if_placed (Some at) fs = fs
 
-unfoldable pub time_fields : Place → Point → List Bytes
+unfoldable pub time_fields : Option ℕ → Point → List Bytes
 time_fields place q = if_placed place (bytes_of 8 q.gps_time ∷ [])
 
 unfoldable pub colours : Point → List Bytes
 colours q = bytes_of 2 q.red ∷ bytes_of 2 q.green ∷ bytes_of 2 q.blue ∷ []
 
-unfoldable pub colour_fields : Place → Point → List Bytes
+unfoldable pub colour_fields : Option ℕ → Point → List Bytes
 colour_fields place q = if_placed place (colours q)
 
 -- the fields of format f, back to back
@@ -73,9 +71,9 @@ encoded f len q room = stored_if (first_failing (encode_checks f len q room)) (p
 
 -- ---- fields that a format lacks
 
-unfoldable pub value_if : Place → ℕ → ℕ
-value_if Absent n = 0
-value_if (At at) n = n
+unfoldable pub value_if : Option ℕ → ℕ → ℕ
+value_if None n = 0
+value_if (Some at) n = n
 
 -- a point with the fields that format f lacks at 0
 unfoldable pub blank : ℕ → Point → Point
@@ -116,16 +114,11 @@ pub record InRange (q : Point) : Type 0 where
   pub green : q.green < 2 ^ 16
   pub blue : q.blue < 2 ^ 16
 
--- ---- what the code's helpers give, and what they leave in a room
+-- ---- what the code's helpers leave in a room
 
--- where a field begins, or the end where the format lacks it
-unfoldable pub start_of : ℕ → Place → ℕ
-start_of end Absent = end
-start_of end (At at) = at
-
-unfoldable pub stored_at : Place → Bytes → Bytes → Bytes
-stored_at Absent b room = room
-stored_at (At at) b room = sets room at b
+unfoldable pub stored_at : Option ℕ → Bytes → Bytes → Bytes
+stored_at None b room = room
+stored_at (Some at) b room = sets room at b
 
 -- GPS time and then colour, those that format f has
 abbrev pub with_others : ℕ → Point → Bytes → Bytes

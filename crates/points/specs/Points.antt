@@ -1,12 +1,10 @@
 -- Point records: the fields of a record's bytes.
 -- Assumes nothing.
-use Rattle.std.specs.Prelude.{ℕ, ◌+◌, List, [], ◌∷◌, length, get_or, eqb}
+use Rattle.std.specs.Prelude.{ℕ, ◌+◌, List, [], ◌∷◌, length, get_or, eqb, Option, Some, None}
 use Rattle.std.specs.Int.{w8}
 use Rattle.std.proofs.Common.{to_z}
 use Rattle.fields.specs.Bytes.{Bytes, part, num}
 use Rattle.fields.specs.Checks.{Test, Check, ◌below◌, not_so, ◌or◌, first_failing, Verdict, Passes, Fails}
-use Rattle.points.specs.declared.formats.Place.{Place}
-use Rattle.points.specs.declared.formats.Place.TheVariants.{At, Absent}
 use Rattle.points.specs.Raw.{bits, bit, class_of, synthetic_of, key_point_of, withheld_of, return_of, stored}
 use Rattle.points.specs.Formats.{format_size, time_place, colour_place}
 use Rattle.points.specs.declared.Point.{Point}
@@ -14,9 +12,9 @@ use Rattle.points.specs.declared.Point.{Point}
 -- ---- fields out of bytes
 
 -- the number of `width` bytes, `shift` bytes behind a place; 0 where the format lacks the field
-unfoldable pub number_in : ℕ → Place → ℕ → Bytes → ℕ
-number_in width Absent shift p = 0
-number_in width (At at) shift p = num (part (at + shift) width p)
+unfoldable pub number_in : ℕ → Option ℕ → ℕ → Bytes → ℕ
+number_in width None shift p = 0
+number_in width (Some at) shift p = num (part (at + shift) width p)
 
 -- the fields of a record p of format f
 unfoldable pub point_of : ℕ → Bytes → Point

@@ -1,13 +1,11 @@
 // A point's fields into the bytes of a record.
-ghost use Rattle.std.specs.Prelude.{◌≡◌, ℕ, ◌+◌, ◌≤◌, length};
+ghost use Rattle.std.specs.Prelude.{◌≡◌, ◌≤◌, length};
 ghost use Rattle.fields.specs.Bytes.{bytes_of, join};
 ghost use Rattle.fields.specs.Checks.{fails};
 ghost use Rattle.fields.specs.Refusals.{verdict_of};
-ghost use Rattle.points.specs.declared.formats.Place.TheVariants.{At};
 ghost use Rattle.points.specs.Formats.{format_size};
-ghost use Rattle.points.specs.Encoding.{colours, large, start_of, stored_at, with_others, encoded};
+ghost use Rattle.points.specs.Encoding.{colours, large, stored_at, with_others, encoded};
 
-use crate::formats::Place;
 use crate::{Point, common, layouts};
 use fields::refusal::Refusal;
 
@@ -18,24 +16,12 @@ fn colour_of(point: Point) -> u64
     point.red as u64 + 65536 * (point.green as u64) + 4294967296 * (point.blue as u64)
 }
 
-// Where a field begins; the end, where nothing has room, if the format lacks it.
-fn start_of(place: Place, end: usize) -> usize
-    ensures { result ≡ start_of end place }
-{
-    match place {
-        Place::At(at) => at,
-        Place::Absent => end,
-    }
-}
-
-// Writes a number at a place, if the format has it. That there is room is asked once more, as in `time_in`: here this
-// one test finds both, so that the number is made only where it is written.
-fn put_at(room: &mut [u8], place: Place, width: usize, n: u64)
-    requires { (at : ℕ) → place ≡ At at → at + width ≤ length room.old }
+// Writes a number at a place, if the format has it.
+#[tactic(auto, unfolding(crate::specs::Encoding::stored_at))]
+fn put_at(room: &mut [u8], place: Option<usize>, width: usize, n: u64)
     ensures { room.new ≡ stored_at place (bytes_of width n) room.old }
 {
-    let at = start_of(place, room.len());
-    if fields::numbers::fits_in(room.len(), at, width) {
+    if let Some(at) = place {
         fields::numbers::put_number(room, at, width, n);
     }
 }

@@ -7,15 +7,13 @@ pub mod formats;
 pub mod layouts;
 pub mod raw;
 
-ghost use Rattle.std.specs.Prelude.{◌≡◌, ℕ, ◌+◌, ◌≤◌, length, not};
+ghost use Rattle.std.specs.Prelude.{◌≡◌, ℕ, ◌+◌, ◌≤◌, length, not, Some};
 ghost use Rattle.fields.specs.Bytes.{num, part};
 ghost use Rattle.fields.specs.Checks.{fails};
 ghost use Rattle.fields.specs.Refusals.{by_number};
-ghost use Rattle.points.specs.declared.formats.Place.TheVariants.{At};
 ghost use Rattle.points.specs.Points.{Fields, Refused, number_in, shape, point_of, decoded};
 ghost use Rattle.points.specs.Encoding.{blank};
 
-use crate::formats::Place;
 use fields::refusal::Refusal;
 use fields::signed;
 
@@ -51,13 +49,13 @@ fn u16_at(s: &[u8], at: usize) -> u16
 
 // GPS time; 0 where the format lacks it. That the record holds it is asked once more here: it shows the compiler that
 // no byte is missing.
-fn time_in(s: &[u8], place: Place) -> u64
-    requires { (at : ℕ) → place ≡ At at → at + 8 ≤ length s.now }
+fn time_in(s: &[u8], place: Option<usize>) -> u64
+    requires { (at : ℕ) → place ≡ Some at → at + 8 ≤ length s.now }
     ensures { result ≡ number_in 8 place 0 s.now }
 {
     match place {
-        Place::Absent => 0,
-        Place::At(at) => {
+        None => 0,
+        Some(at) => {
             if fields::numbers::fits_in(s.len(), at, 8) {
                 fields::numbers::number_at(s, at, 8)
             } else {
@@ -76,19 +74,19 @@ struct Colour {
 
 // Red, green and blue; 0 where the format lacks them. The record is asked as for GPS time, once for all three: a test
 // for each makes `decode` too long to be inlined.
-fn colour_in(s: &[u8], place: Place) -> Colour
-    requires { (at : ℕ) → place ≡ At at → at + 6 ≤ length s.now }
+fn colour_in(s: &[u8], place: Option<usize>) -> Colour
+    requires { (at : ℕ) → place ≡ Some at → at + 6 ≤ length s.now }
     ensures { (result.red ≡ number_in 2 place 0 s.now)
         × (result.green ≡ number_in 2 place 2 s.now)
         × (result.blue ≡ number_in 2 place 4 s.now) }
 {
     match place {
-        Place::Absent => Colour {
+        None => Colour {
             red: 0,
             green: 0,
             blue: 0,
         },
-        Place::At(at) => {
+        Some(at) => {
             if fields::numbers::fits_in(s.len(), at, 6) {
                 Colour {
                     red: u16_at(s, at),

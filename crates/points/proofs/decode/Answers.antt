@@ -1,8 +1,8 @@
 -- `points::decode` meets its contract. Assumes nothing.
 use mathlib.Core.Path.{sym, ap, ◌∙◌}
 use lib.ListN.{length}
+use Rattle.std.specs.Prelude.{ℕ, Option}
 use Rattle.points.specs.declared.layouts.Layout.{Layout}
-use Rattle.points.specs.declared.formats.Place.{Place}
 use Rattle.points.specs.Formats.{layout_of}
 use Rattle.points.specs.Points.{Fields, number_in}
 use Rattle.points.proofs.AnswerLaws.{refused, accepted_by, with_others, shape_found, time_there, colour_there}
@@ -33,8 +33,8 @@ returns c =
     let colour = ap (λ (l : Layout). l.colour) c.layout_of-layout.ensures in
     ap Fields
     (with_others f s c.shared_of-point.result _ _ _ _ c.shared_of-point.ensures
-    (c.time_in.ensures ∙ ap (λ (k : Place). number_in 8 k 0 s) time)
-    (c.colour_in-rgb.ensures.0 ∙ ap (λ (k : Place). number_in 2 k 0 s) colour)
-    (c.colour_in-rgb.ensures.1 ∙ ap (λ (k : Place). number_in 2 k 2 s) colour)
-    (c.colour_in-rgb.ensures.2 ∙ ap (λ (k : Place). number_in 2 k 4 s) colour))
+    (c.time_in.ensures ∙ ap (λ (k : Option ℕ). number_in 8 k 0 s) time)
+    (c.colour_in-rgb.ensures.0 ∙ ap (λ (k : Option ℕ). number_in 2 k 0 s) colour)
+    (c.colour_in-rgb.ensures.1 ∙ ap (λ (k : Option ℕ). number_in 2 k 2 s) colour)
+    (c.colour_in-rgb.ensures.2 ∙ ap (λ (k : Option ℕ). number_in 2 k 4 s) colour))
     ∙ sym (accepted_by f a.record_length s _ c.has_shape.ensures c.if-not-has_shape.false-raw)

@@ -7,12 +7,11 @@ use native.Mathlib.Omega.{arith}
 use mathlib.Core.List.{List, [], ◌∷◌, ◌++◌, append-nil, append_assoc}
 use lib.ListN.{length, length-append}
 use lib.Seq.{sets}
+use Rattle.std.specs.Prelude.{Option, Some, None}
 use Rattle.fields.specs.Lists.{total}
 use Rattle.fields.specs.Bytes.{Bytes, Fit, join}
 use Rattle.fields.proofs.ByteLaws.{length-join, length-bytes_of, join-append}
 use Rattle.fields.proofs.StoreLaws.{sets-append, sets_swap}
-use Rattle.points.specs.declared.formats.Place.{Place}
-use Rattle.points.specs.declared.formats.Place.TheVariants.{At, Absent}
 use Rattle.points.specs.Formats.{format_size, time_place, colour_place}
 use Rattle.points.proofs.formats.FormatLaws.{Follows, width_if, layered}
 use Rattle.points.specs.declared.Point.{Point}
@@ -32,16 +31,16 @@ pub length_shared : (f : ℕ) (q : Point) → length (join (shared_fields f q)) 
 unfolding total
 length_shared f q = length-join shared_widths (shared_fields f q) (shared_fit f q)
 
-pub length_placed : (place : Place) (ws : List ℕ) (fs : List Bytes) → Fit ws fs → length (join (if_placed place fs)) ≡ width_if place (total (λ n. n) ws)
+pub length_placed : (place : Option ℕ) (ws : List ℕ) (fs : List Bytes) → Fit ws fs → length (join (if_placed place fs)) ≡ width_if place (total (λ n. n) ws)
 unfolding if_placed join
-length_placed Absent ws fs h = refl
-length_placed (At at) ws fs h = length-join ws fs h
+length_placed None ws fs h = refl
+length_placed (Some at) ws fs h = length-join ws fs h
 
-pub length_time : (place : Place) (q : Point) → length (join (time_fields place q)) ≡ width_if place 8
+pub length_time : (place : Option ℕ) (q : Point) → length (join (time_fields place q)) ≡ width_if place 8
 unfolding time_fields total
 length_time place q = length_placed place (8 ∷ []) _ (length-bytes_of 8 q.gps_time, tt)
 
-pub length_colour : (place : Place) (q : Point) → length (join (colour_fields place q)) ≡ width_if place 6
+pub length_colour : (place : Option ℕ) (q : Point) → length (join (colour_fields place q)) ≡ width_if place 6
 unfolding colour_fields colours total
 length_colour place q =
     length_placed place (2 ∷ 2 ∷ 2 ∷ []) _ (length-bytes_of 2 q.red, (length-bytes_of 2 q.green, (length-bytes_of 2 q.blue, tt)))
@@ -62,18 +61,18 @@ length_bytes f q h =
 
 -- ---- fields at a place, written behind what is written
 
-pub stored_behind : (place : Place) (fs : List Bytes) (room b : Bytes) → Follows place (length b)
+pub stored_behind : (place : Option ℕ) (fs : List Bytes) (room b : Bytes) → Follows place (length b)
     → stored_at place (join (if_placed place fs)) (sets room 0 b) ≡ sets room 0 (b ++ join (if_placed place fs))
 unfolding stored_at if_placed join
-stored_behind Absent fs room b h = rw (append-nil b)
-stored_behind (At at) fs room b h = rw (h, ← zero-add (length b)) (sym (sets-append room 0 b (join fs)))
+stored_behind None fs room b h = rw (append-nil b)
+stored_behind (Some at) fs room b h = rw (h, ← zero-add (length b)) (sym (sets-append room 0 b (join fs)))
 
 -- fields at a place, written before what stands in front of it
-stored_before : (place : Place) (n : ℕ) (b s room : Bytes) → Follows place n → length s ≤ n
+stored_before : (place : Option ℕ) (n : ℕ) (b s room : Bytes) → Follows place n → length s ≤ n
     → sets (stored_at place b room) 0 s ≡ stored_at place b (sets room 0 s)
 unfolding stored_at
-stored_before Absent n b s room f h = refl
-stored_before (At at) n b s room f h = sets_swap room 0 at s b (omega arith)
+stored_before None n b s room f h = refl
+stored_before (Some at) n b s room f h = sets_swap room 0 at s b (omega arith)
 
 -- the room after GPS time and colour, and after the shared fields
 pub all_stored : (f : ℕ) (q : Point) (room others whole : Bytes) → others ≡ with_others f q room → whole ≡ sets others 0 (join (shared_fields f q))

@@ -3,30 +3,25 @@
 use mathlib.Core.Path.{◌≡◌, refl}
 use Prim.Native.Nat.{ℕ, zero, suc, ◌+◌, ◌≤◌}
 use native.Mathlib.Omega.{arith}
-use Rattle.points.specs.declared.formats.Place.{Place}
-use Rattle.points.specs.declared.formats.Place.TheVariants.{At, Absent}
-use Rattle.points.specs.Formats.{format_size, time_place, colour_place}
-
-pub sizes : (20 ≡ format_size 0) × (28 ≡ format_size 1) × (26 ≡ format_size 2) × (34 ≡ format_size 3)
-unfolding format_size
-sizes = (refl, refl, refl, refl)
+use Rattle.std.specs.Prelude.{Option, Some, None}
+use Rattle.points.specs.Formats.{format_size, time_place, colour_place, layout_of}
 
 -- format 0 has the shared fields alone
-pub plain : (time_place 0 ≡ Absent) × (colour_place 0 ≡ Absent)
+pub plain : (time_place 0 ≡ None) × (colour_place 0 ≡ None)
 unfolding time_place colour_place
 plain = (refl, refl)
 
 -- ---- GPS time stands behind the shared fields, and colour behind both, where a format has them
 
 -- where the format has the field, it begins after n bytes
-abbrev pub Follows : Place → ℕ → Type 0
-Follows Absent n = Unit {0}
-Follows (At at) n = at ≡ n
+abbrev pub Follows : Option ℕ → ℕ → Type 0
+Follows None n = Unit {0}
+Follows (Some at) n = at ≡ n
 
 -- how many bytes fields of w bytes take at a place
-abbrev pub width_if : Place → ℕ → ℕ
-width_if Absent w = 0
-width_if (At at) w = w
+abbrev pub width_if : Option ℕ → ℕ → ℕ
+width_if None w = 0
+width_if (Some at) w = w
 
 -- what the table of the formats says, format by format: all else is over the place
 pub record Layered (f : ℕ) : Type 0 where
@@ -47,29 +42,23 @@ pub shared_first : (f : ℕ) → f ≤ 3 → 20 ≤ format_size f
 shared_first f h = omega (arith, (layered f).size h)
 
 -- where a format has the field, its record holds it
-pub time_held : (f at : ℕ) → f ≤ 3 → time_place f ≡ At at → at + 8 ≤ format_size f
+pub time_held : (f at : ℕ) → f ≤ 3 → time_place f ≡ Some at → at + 8 ≤ format_size f
 time_held f at h e =
     let begins : at ≡ 20 = rw e at (layered f).time in
     let size : format_size f ≡ 20 + 8 + width_if (colour_place f) 6 = rw e at ((layered f).size h) in
     omega arith
 
-pub colour_held : (f at : ℕ) → f ≤ 3 → colour_place f ≡ At at → at + 6 ≤ format_size f
+pub colour_held : (f at : ℕ) → f ≤ 3 → colour_place f ≡ Some at → at + 6 ≤ format_size f
 colour_held f at h e =
     let begins : at ≡ 20 + width_if (time_place f) 8 = rw e at (layered f).colour in
     let size : format_size f ≡ 20 + width_if (time_place f) 8 + 6 = rw e at ((layered f).size h) in
     omega arith
 
--- ---- formats above 3 have no size and no places
-
-pub record Above (f : ℕ) : Type 0 where
-  pub size : format_size f ≡ 0
-  pub time : time_place f ≡ Absent
-  pub colour : colour_place f ≡ Absent
-
-pub above : (f : ℕ) → 4 ≤ f → Above f
-unfolding format_size time_place colour_place
-above zero h = absurd (omega arith)
-above (suc zero) h = absurd (omega arith)
-above (suc (suc zero)) h = absurd (omega arith)
-above (suc (suc (suc zero))) h = absurd (omega arith)
-above (suc (suc (suc (suc f)))) h = record { size = refl; time = refl; colour = refl }
+-- formats above 3 have no size and no places
+pub no_layout : (f : ℕ) → 4 ≤ f → layout_of f ≡ record { size = 0; time = None; colour = None }
+unfolding format_size time_place colour_place layout_of
+no_layout zero h = absurd (omega arith)
+no_layout (suc zero) h = absurd (omega arith)
+no_layout (suc (suc zero)) h = absurd (omega arith)
+no_layout (suc (suc (suc zero))) h = absurd (omega arith)
+no_layout (suc (suc (suc (suc f)))) h = refl

@@ -1,24 +1,29 @@
 // Point format 0: the shared 20 bytes alone.
-ghost use Rattle.std.specs.Prelude.{◌≡◌};
-ghost use Rattle.points.specs.Formats.{time_place, colour_place};
+ghost use Rattle.std.specs.Prelude.{refl};
+ghost use Rattle.points.specs.Formats.{format_size};
 
-use crate::formats::Place;
+use crate::formats::Format;
 
-#[derive(Clone, Copy)]
+#[derive(Clone, Copy, Debug, PartialEq, Eq)]
 pub struct Format0;
 
-impl Format0 {
-    pub const SIZE: usize = 20;
+#[tactic(auto, unfolding(crate::specs::Formats::format_size, crate::specs::Formats::time_place, crate::specs::Formats::colour_place))]
+impl Format for Format0 {
+    ghost NUMBER = { 0 };
 
-    pub fn time_place() -> Place
-        ensures { result ≡ time_place 0 }
-    {
-        Place::Absent // no GPS time
+    ghost SIZE = { format_size 0 };
+
+    ghost size_known = { refl };
+
+    const NUMBER: u8 = 0;
+
+    const SIZE: usize = 20;
+
+    fn time_place() -> Option<usize> {
+        None // no GPS time
     }
 
-    pub fn colour_place() -> Place
-        ensures { result ≡ colour_place 0 }
-    {
-        Place::Absent // no colour
+    fn colour_place() -> Option<usize> {
+        None // no colour
     }
 }

@@ -1,24 +1,29 @@
 // Point format 1: the shared 20 bytes and GPS time.
-ghost use Rattle.std.specs.Prelude.{◌≡◌};
-ghost use Rattle.points.specs.Formats.{time_place, colour_place};
+ghost use Rattle.std.specs.Prelude.{refl};
+ghost use Rattle.points.specs.Formats.{format_size};
 
-use crate::formats::Place;
+use crate::formats::Format;
 
-#[derive(Clone, Copy)]
+#[derive(Clone, Copy, Debug, PartialEq, Eq)]
 pub struct Format1;
 
-impl Format1 {
-    pub const SIZE: usize = 28;
+#[tactic(auto, unfolding(crate::specs::Formats::format_size, crate::specs::Formats::time_place, crate::specs::Formats::colour_place))]
+impl Format for Format1 {
+    ghost NUMBER = { 1 };
 
-    pub fn time_place() -> Place
-        ensures { result ≡ time_place 1 }
-    {
-        Place::At(20)
+    ghost SIZE = { format_size 1 };
+
+    ghost size_known = { refl };
+
+    const NUMBER: u8 = 1;
+
+    const SIZE: usize = 28;
+
+    fn time_place() -> Option<usize> {
+        Some(20)
     }
 
-    pub fn colour_place() -> Place
-        ensures { result ≡ colour_place 1 }
-    {
-        Place::Absent // no colour
+    fn colour_place() -> Option<usize> {
+        None // no colour
     }
 }

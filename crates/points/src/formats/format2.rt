@@ -1,24 +1,29 @@
 // Point format 2: the shared 20 bytes and colour.
-ghost use Rattle.std.specs.Prelude.{◌≡◌};
-ghost use Rattle.points.specs.Formats.{time_place, colour_place};
+ghost use Rattle.std.specs.Prelude.{refl};
+ghost use Rattle.points.specs.Formats.{format_size};
 
-use crate::formats::Place;
+use crate::formats::Format;
 
-#[derive(Clone, Copy)]
+#[derive(Clone, Copy, Debug, PartialEq, Eq)]
 pub struct Format2;
 
-impl Format2 {
-    pub const SIZE: usize = 26;
+#[tactic(auto, unfolding(crate::specs::Formats::format_size, crate::specs::Formats::time_place, crate::specs::Formats::colour_place))]
+impl Format for Format2 {
+    ghost NUMBER = { 2 };
 
-    pub fn time_place() -> Place
-        ensures { result ≡ time_place 2 }
-    {
-        Place::Absent // no GPS time
+    ghost SIZE = { format_size 2 };
+
+    ghost size_known = { refl };
+
+    const NUMBER: u8 = 2;
+
+    const SIZE: usize = 26;
+
+    fn time_place() -> Option<usize> {
+        None // no GPS time
     }
 
-    pub fn colour_place() -> Place
-        ensures { result ≡ colour_place 2 }
-    {
-        Place::At(20)
+    fn colour_place() -> Option<usize> {
+        Some(20)
     }
 }

@@ -1,24 +1,29 @@
 // Point format 3: the shared 20 bytes, GPS time and colour.
-ghost use Rattle.std.specs.Prelude.{◌≡◌};
-ghost use Rattle.points.specs.Formats.{time_place, colour_place};
+ghost use Rattle.std.specs.Prelude.{refl};
+ghost use Rattle.points.specs.Formats.{format_size};
 
-use crate::formats::Place;
+use crate::formats::Format;
 
-#[derive(Clone, Copy)]
+#[derive(Clone, Copy, Debug, PartialEq, Eq)]
 pub struct Format3;
 
-impl Format3 {
-    pub const SIZE: usize = 34;
+#[tactic(auto, unfolding(crate::specs::Formats::format_size, crate::specs::Formats::time_place, crate::specs::Formats::colour_place))]
+impl Format for Format3 {
+    ghost NUMBER = { 3 };
 
-    pub fn time_place() -> Place
-        ensures { result ≡ time_place 3 }
-    {
-        Place::At(20)
+    ghost SIZE = { format_size 3 };
+
+    ghost size_known = { refl };
+
+    const NUMBER: u8 = 3;
+
+    const SIZE: usize = 34;
+
+    fn time_place() -> Option<usize> {
+        Some(20)
     }
 
-    pub fn colour_place() -> Place
-        ensures { result ≡ colour_place 3 }
-    {
-        Place::At(28)
+    fn colour_place() -> Option<usize> {
+        Some(28)
     }
 }

@@ -9,11 +9,10 @@ use lib.Seq.{take-add, drop-drop}
 use mir.Syntax.{Width, w8, w32}
 use mir.Val.{to_z, of_z, bits as width_bits}
 use mir.ValLaws.{of_z-to_z}
+use Rattle.std.specs.Prelude.{Option, Some, None}
 use Rattle.fields.specs.Lists.{total}
 use Rattle.fields.specs.Bytes.{Bytes, AllBytes, part, num, bytes_of, join}
 use Rattle.fields.proofs.ByteLaws.{part_bytes, bytes_of-num, num-part-lt, num-part_one, length_part}
-use Rattle.points.specs.declared.formats.Place.{Place}
-use Rattle.points.specs.declared.formats.Place.TheVariants.{At, Absent}
 use Rattle.points.specs.Formats.{format_size, time_place, colour_place}
 use Rattle.points.proofs.formats.FormatLaws.{Follows, width_if, layered}
 use Rattle.points.specs.Points.{number_in, point_of}
@@ -38,7 +37,7 @@ module _ (s : Bytes) (all : AllBytes s) where
       ap (bytes_of n) (of_z-to_z w (num (part at n s)) (record { fits = rw e at (num-part-lt at n s all) })) ∙ number_back at n h
 
   placed_back : (at w shift : ℕ) → at + shift + w ≤ length s
-      → bytes_of w (number_in w (At at) shift s) ≡ part (at + shift) w s
+      → bytes_of w (number_in w (Some at) shift s) ≡ part (at + shift) w s
   unfolding number_in
   placed_back at w shift h = number_back (at + shift) w h
 
@@ -70,13 +69,13 @@ join_parts at (w ∷ ws) s = rw (join_parts (at + w) ws s) (parts_two at w (tota
 -- ---- the groups
 
 -- the fields of these widths at a place, one behind another
-abbrev numbers_at : ℕ → List ℕ → Place → Bytes → List Bytes
+abbrev numbers_at : ℕ → List ℕ → Option ℕ → Bytes → List Bytes
 numbers_at shift [] place s = []
 numbers_at shift (w ∷ ws) place s = bytes_of w (number_in w place shift s) ∷ numbers_at (shift + w) ws place s
 
 module _ (s : Bytes) (all : AllBytes s) where
   numbers_parts : (at shift : ℕ) (ws : List ℕ) → at + shift + total (λ n. n) ws ≤ length s
-      → numbers_at shift ws (At at) s ≡ parts_from (at + shift) ws s
+      → numbers_at shift ws (Some at) s ≡ parts_from (at + shift) ws s
   unfolding total
   numbers_parts at shift [] h = refl
   numbers_parts at shift (w ∷ ws) h =
@@ -84,12 +83,12 @@ module _ (s : Bytes) (all : AllBytes s) where
       rw (placed_back s all at w shift (omega arith), numbers_parts at (shift + w) ws (omega arith), e)
 
   -- one law for GPS time and for colour, over the place
-  group_back : (place : Place) (n : ℕ) (ws : List ℕ) → Follows place n
+  group_back : (place : Option ℕ) (n : ℕ) (ws : List ℕ) → Follows place n
       → n + width_if place (total (λ n. n) ws) ≤ length s
       → join (if_placed place (numbers_at 0 ws place s)) ≡ part n (width_if place (total (λ n. n) ws)) s
   unfolding if_placed join part
-  group_back Absent n ws e h = refl
-  group_back (At at) n ws e h =
+  group_back None n ws e h = refl
+  group_back (Some at) n ws e h =
       let z : at + 0 ≡ n = omega arith in
       ap join (numbers_parts at 0 ws (omega arith)) ∙ join_parts (at + 0) ws s ∙ ap (λ (k : ℕ). part k (total (λ n. n) ws) s) z
 

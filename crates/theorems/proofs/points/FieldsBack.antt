@@ -11,10 +11,9 @@ use lib.Dec.{eqb}
 use mir.Syntax.{w8, w32}
 use mir.Val.{SFits, to_z, of_z, bool_byte}
 use mir.ValLaws.{of_z_fits, to_z-of_z}
+use Rattle.std.specs.Prelude.{Option, Some, None}
 use Rattle.fields.specs.Bytes.{Bytes, part, num, bytes_of, join, start, Fit}
 use Rattle.fields.proofs.ByteLaws.{num-bytes_of, length-bytes_of, num-part_one, part_behind, field_back}
-use Rattle.points.specs.declared.formats.Place.{Place}
-use Rattle.points.specs.declared.formats.Place.TheVariants.{At, Absent}
 use Rattle.points.specs.Formats.{time_place, colour_place}
 use Rattle.points.proofs.formats.FormatLaws.{Follows, width_if, layered}
 use Rattle.points.specs.declared.Point.{Point}
@@ -30,13 +29,13 @@ among : (ws : List ℕ) (fs : List Bytes) (rest : Bytes) (i n : ℕ) → Fit ws 
 among ws fs rest i n fit h e small = ap num (field_back ws fs rest i fit h ∙ e) ∙ num-bytes_of (get_or ws i 0) n small
 
 -- the same at a place, over the place: GPS time and colour
-placed_among : (place : Place) (k : ℕ) (x : Bytes) (ws : List ℕ) (fs : List Bytes) (rest : Bytes) (i n : ℕ)
+placed_among : (place : Option ℕ) (k : ℕ) (x : Bytes) (ws : List ℕ) (fs : List Bytes) (rest : Bytes) (i n : ℕ)
     → Follows place k → length x ≡ k → Fit ws fs
     → i < length ws → get_or fs i [] ≡ bytes_of (get_or ws i 0) n → n < 256 ^ get_or ws i 0
     → number_in (get_or ws i 0) place (start i ws) (x ++ (join (if_placed place fs) ++ rest)) ≡ value_if place n
 unfolding number_in value_if if_placed
-placed_among Absent k x ws fs rest i n follows wide fit h e small = refl
-placed_among (At at) k x ws fs rest i n follows wide fit h e small =
+placed_among None k x ws fs rest i n follows wide fit h e small = refl
+placed_among (Some at) k x ws fs rest i n follows wide fit h e small =
     rw (follows, part_behind k (start i ws) (get_or ws i 0) x (join fs ++ rest) wide) (among ws fs rest i n fit h e small)
 
 -- ---- the byte at 14

@@ -1,8 +1,0 @@
--- `formats::format3::Format3::time_place` meets its contract: its place is the table's. Assumes nothing.
-use mathlib.Core.Path.{refl}
-use Rattle.points.specs.Formats.{time_place}
-use Rattle.points.proofs.formats.format3.Format3.time_place.Goals as goal
-
-pub returns : goal.returns
-unfolding time_place
-returns c = refl
