@@ -7,7 +7,7 @@ use Prim.Native.Nat.{ℕ, ◌+◌, ◌-◌, ◌*◌, ◌≤◌}
 use native.Mathlib.Omega.{arith}
 use mathlib.Core.List.{List, [], ◌∷◌, ◌++◌, append_assoc}
 use lib.ListN.{length, take, drop, length-append, length-drop, length-replicate, replicate-append-replicate}
-use lib.IntN.{ℤ}
+use Rattle.sheet.specs.declared.boxes.Boxes.{Boxes}
 use lib.Seq.{sets, sets-eq, length-sets, length-take-le, get_or-drop, take_at, drop_at, take-append-add}
 use Rattle.fields.specs.Lists.{All, total}
 use Rattle.fields.specs.Bytes.{Bytes, AllBytes, zeros, join, pieces}
@@ -153,7 +153,7 @@ module _ (sheet s : Bytes) (bytes : AllBytes s) (passes : file_verdict s ≡ Pas
         rw (own-head, append_assoc front records (points ++ z))
         (over_front front (records ++ (points ++ z)) head (length_front ∙ sym length_of_head) ∙ sym (render_parts part_of z))
 
-  module _ (table : List Bool) (right : TableOf sheet (format s) table) (boxes : List ℤ) (read : BoxesOf sheet boxes) where
+  module _ (table : List Bool) (right : TableOf sheet (format s) table) (boxes : Boxes) (read : BoxesOf sheet boxes) where
     -- table and boxes keep the points that the sheet keeps
     by_table : (ps : List Bytes) → All AllBytes ps → All (λ p. keeps_by table boxes (format s) p ≡ keeps_point sheet (format s) p) ps
     by_table [] h = tt
@@ -188,7 +188,7 @@ module _ (sheet s : Bytes) (bytes : AllBytes s) (passes : file_verdict s ≡ Pas
       assembled = rw (written_is, points_stored, points_are) (headed out room)
 
 -- what was measured, over the released file
-pub record Sized (sheet s : Bytes) (table : List Bool) (boxes : List ℤ) (k : KeptRecords) : Type 0 where
+pub record Sized (sheet s : Bytes) (table : List Bool) (boxes : Boxes) (k : KeptRecords) : Type 0 where
   pub offset : k.end ≡ new_offset (public_of sheet s)
   pub needed : end_of_points table boxes s k.end ≡ length (render (public_of sheet s))
   pub points : length (kept_in table boxes s) ≡ length (public_of sheet s).points
@@ -196,7 +196,7 @@ pub record Sized (sheet s : Bytes) (table : List Bool) (boxes : List ℤ) (k : K
   pub most : k.end + point_count s * record_length s ≤ length s
 
 pub sized : (sheet s : Bytes) → AllBytes s → file_verdict s ≡ Passes → (table : List Bool) → TableOf sheet (format s) table
-    → (boxes : List ℤ) → BoxesOf sheet boxes → (k : KeptRecords) → k ≡ measured (public_of sheet s).records → Sized sheet s table boxes k
+    → (boxes : Boxes) → BoxesOf sheet boxes → (k : KeptRecords) → k ≡ measured (public_of sheet s).records → Sized sheet s table boxes k
 unfolding measured
 sized sheet s bytes passes table right boxes read k m =
     let points : length (kept_in table boxes s) ≡ length (public_of sheet s).points = ap length (points_are sheet s bytes passes table right boxes read) in

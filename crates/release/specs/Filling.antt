@@ -1,26 +1,27 @@
 -- What is looked at of a file, one thing after the other, and the lines of what is kept; no public contract cites
 -- these.
 -- Assumes nothing.
-use Rattle.std.specs.Prelude.{◌≡◌, ℕ, zero, suc, ◌+◌, ◌*◌, ◌^◌, ◌<◌, Bool, cond, List, ◌++◌, ltb, ℤ}
+use Rattle.std.specs.Prelude.{◌≡◌, ℕ, zero, suc, ◌+◌, ◌*◌, ◌^◌, ◌<◌, Bool, cond, List, ◌++◌, ltb}
 use Rattle.fields.specs.Lists.{cons_if}
 use Rattle.fields.specs.Bytes.{Bytes}
 use Rattle.lasfile.specs.HeaderFields.{header_size, point_offset, record_count, format, record_length, point_count}
+use Rattle.sheet.specs.declared.boxes.Boxes.{Boxes}
 use Rattle.sheet.specs.Boxes.{keeps_by}
 use Rattle.publicpart.specs.declared.Span.{Span}
 use Rattle.publicpart.specs.Cutting.{span, payload_line, payload_lines, piece_lines}
 use Rattle.release.specs.declared.filling.Filling.{Filling}
 
 -- the lines of n records and m points, each from a place on, where a table and boxes say which points are kept
-unfoldable pub lines_of : Bytes → List Bool → List ℤ → Bytes → ℕ → ℕ → ℕ → ℕ → List Span
+unfoldable pub lines_of : Bytes → List Bool → Boxes → Bytes → ℕ → ℕ → ℕ → ℕ → List Span
 lines_of sheet table boxes s n record_at m point_at =
     payload_lines sheet s n record_at ++ piece_lines (keeps_by table boxes (format s)) s (record_length s) m point_at
 
 -- of what is still to look at
-abbrev pub lines_from : Bytes → List Bool → List ℤ → Bytes → Filling → List Span
+abbrev pub lines_from : Bytes → List Bool → Boxes → Bytes → Filling → List Span
 lines_from sheet table boxes s t = lines_of sheet table boxes s t.records t.record_at t.points t.point_at
 
 -- of a file
-abbrev pub table_lines : Bytes → List Bool → List ℤ → Bytes → List Span
+abbrev pub table_lines : Bytes → List Bool → Boxes → Bytes → List Span
 table_lines sheet table boxes s = lines_of sheet table boxes s (record_count s) (header_size s) (point_count s) (point_offset s)
 
 -- the header's fields are the file's, and sums of places and of lines do not wrap: a record has less than 2 ^ 17 bytes
@@ -66,10 +67,10 @@ pub record Begun (s : Bytes) (n : ℕ) (t : Filling) : Type 0 where
   pub ready : Ready s t
   pub none : t.k ≡ 0
   pub bound : t.n ≡ n
-  pub lines : (sheet : Bytes) (table : List Bool) (boxes : List ℤ) → lines_from sheet table boxes s t ≡ table_lines sheet table boxes s
+  pub lines : (sheet : Bytes) (table : List Bool) (boxes : Boxes) → lines_from sheet table boxes s t ≡ table_lines sheet table boxes s
 
 -- the thing at hand was looked at: where it is kept its line comes first, and k counts it
-pub record Looked (sheet : Bytes) (table : List Bool) (boxes : List ℤ) (s : Bytes) (t r : Filling) : Type 0 where
+pub record Looked (sheet : Bytes) (table : List Bool) (boxes : Boxes) (s : Bytes) (t r : Filling) : Type 0 where
   pub ready : Ready s r
   pub bound : r.n ≡ t.n
   pub keep : Bool

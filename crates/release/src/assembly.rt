@@ -9,6 +9,7 @@ use crate::head::HeadTotals;
 use crate::{copier, head, vlrs};
 use fields::slices;
 use lasfile::header;
+use sheet::boxes::Boxes;
 use tally::Tally;
 
 // Lends the output from the new point offset `start` on to the point copier, which zeros the rest, and says the tally
@@ -16,7 +17,7 @@ use tally::Tally;
 fn put_points(
     file: &[u8],
     table: &[bool; 256],
-    boxes: &[i32; 385],
+    boxes: &Boxes,
     start: usize,
     out: &mut [u8],
 ) -> Tally
@@ -62,7 +63,7 @@ pub(crate) fn write(
     file: &[u8],
     sheet: &[u8],
     table: &[bool; 256],
-    boxes: &[i32; 385],
+    boxes: &Boxes,
     records: usize,
     start: usize,
     out: &mut [u8],

@@ -7,9 +7,11 @@ ghost use Rattle.tally.specs.Tally.{tally_of};
 ghost use Rattle.release.specs.BoxIndex.{Covers};
 ghost use Rattle.release.specs.KeptPoints.{kept_points, kept_of, picked, Places};
 
-use crate::{box_index, kept_points};
+use crate::box_index::BoxIndex;
+use crate::kept_points;
 use fields::{copying, numbers, slices};
 use points::raw;
+use sheet::boxes::Boxes;
 use tally::Tally;
 
 // Writes the records at the first k of the chosen places of a block to the front of `out`, one behind the other.
@@ -41,8 +43,8 @@ fn copy_block(
     record_length: usize,
     n: usize,
     table: &[bool; 256],
-    boxes: &[i32; 385],
-    index: &[u64; 198],
+    boxes: &Boxes,
+    index: &BoxIndex,
     chosen: &mut [usize],
     out: &mut [u8],
 ) -> usize
@@ -78,7 +80,7 @@ fn copy_run(
     record_length: usize,
     count: usize,
     table: &[bool; 256],
-    boxes: &[i32; 385],
+    boxes: &Boxes,
     out: &mut [u8],
 ) -> Tally
     requires { (20 ≤ record_length)
@@ -93,7 +95,7 @@ fn copy_run(
         (join (kept_of (keeps_by table.now boxes.now format)
         count record_length run.now))) }
 {
-    let index = box_index::index_of(boxes);
+    let index = BoxIndex::of(boxes);
     let mut chosen = [0usize; kept_points::BLOCK];
     let mut t = tally::fresh();
     let mut at = 0;
@@ -128,7 +130,7 @@ fn copy_front(
     record_length: usize,
     count: usize,
     table: &[bool; 256],
-    boxes: &[i32; 385],
+    boxes: &Boxes,
     out: &mut [u8],
 ) -> Tally
     requires { length (kept_points (keeps_by table.now boxes.now format) count record_length run.now) * record_length
@@ -156,7 +158,7 @@ pub(crate) fn copy_points(
     record_length: usize,
     count: usize,
     table: &[bool; 256],
-    boxes: &[i32; 385],
+    boxes: &Boxes,
     out: &mut [u8],
 ) -> Tally
     requires { length (kept_points (keeps_by table.now boxes.now format) count record_length run.now) * record_length

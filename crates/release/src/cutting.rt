@@ -1,7 +1,8 @@
 // The cutting list: which parts of a file a release takes, in a lent list.
-ghost use Rattle.std.specs.Prelude.{◌≡◌, ◌≤◌, List, ℤ, length, take};
+ghost use Rattle.std.specs.Prelude.{◌≡◌, ◌≤◌, length, take};
 ghost use Rattle.fields.specs.Checks.{Passes};
 ghost use Rattle.lasfile.specs.FileChecks.{file_verdict};
+ghost use Rattle.sheet.specs.declared.boxes.Boxes as declared;
 ghost use Rattle.sheet.specs.Boxes.{BoxesOf};
 ghost use Rattle.publicpart.specs.Public.{public_of};
 ghost use Rattle.fields.specs.Refusals.{by_number};
@@ -13,10 +14,11 @@ use crate::{filling, lines, vlrs};
 use fields::refusal::Refusal;
 use publicpart::Span;
 use sheet::boxes;
+use sheet::boxes::Boxes;
 
 // The table of `table_for`, by the lines that it gives with the sheet's boxes.
 fn table_of(file: &[u8], sheet: &[u8]) -> [bool; 256]
-    ensures { (boxes : List ℤ) → BoxesOf sheet.now boxes
+    ensures { (boxes : declared.Boxes) → BoxesOf sheet.now boxes
         → table_lines sheet.now result boxes file.now
         ≡ cutting_lines sheet.now file.now }
 {
@@ -24,7 +26,7 @@ fn table_of(file: &[u8], sheet: &[u8]) -> [bool; 256]
 }
 
 // The sheet's boxes.
-fn boxes_of(sheet: &[u8]) -> [i32; 385]
+fn boxes_of(sheet: &[u8]) -> Boxes
     ensures { BoxesOf sheet.now result }
 {
     boxes::boxes_of(sheet)
@@ -37,7 +39,7 @@ fn fill_by_table(
     file: &[u8],
     sheet: &[u8],
     table: &[bool; 256],
-    boxes: &[i32; 385],
+    boxes: &Boxes,
     n: usize,
     list: &mut [Span],
 )

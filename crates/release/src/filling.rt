@@ -1,6 +1,7 @@
 // Where the filling of a list stands, as a file is looked at one thing after the other: records, and then points.
-ghost use Rattle.std.specs.Prelude.{◌≡◌, Bool, List, ℤ, ◌+◌, ◌<◌};
+ghost use Rattle.std.specs.Prelude.{◌≡◌, Bool, List, ◌+◌, ◌<◌};
 ghost use Rattle.fields.specs.Bytes.{Bytes};
+ghost use Rattle.sheet.specs.declared.boxes.Boxes as declared;
 ghost use Rattle.release.specs.Filling.{Ready, with_line, HasLine, Begun, Looked};
 
 use crate::kept_points::one_if;
@@ -8,6 +9,7 @@ use crate::vlrs;
 use fields::slices;
 use lasfile::{header, vlr};
 use sheet::boxes;
+use sheet::boxes::Boxes;
 
 // Where the filling of a list stands: line k comes next, and `more` says that k is less than n, the lines to fill.
 // Still to look at are `records` records from `record_at` on, and then `points` points from `point_at` on. At hand is
@@ -70,7 +72,7 @@ pub(crate) fn first_line(file: &[u8], n: usize) -> Filling
 // Behind the record at hand: k goes up where it is kept.
 fn past_record(file: &[u8], sheet: &[u8], t: Filling) -> Filling
     requires { Ready file.now t × HasLine file.now t × (0 < t.records) }
-    ensures { (table : List Bool) (boxes : List ℤ) → Looked sheet.now table boxes file.now t result }
+    ensures { (table : List Bool) (boxes : declared.Boxes) → Looked sheet.now table boxes file.now t result }
 {
     let vlr = slices::part_at(file, t.record_at, file.len());
     let mut u = t;
@@ -81,7 +83,7 @@ fn past_record(file: &[u8], sheet: &[u8], t: Filling) -> Filling
 }
 
 // Behind the point at hand, with no branch on whether it is kept, where there is no box.
-fn past_point(file: &[u8], table: &[bool; 256], boxes: &[i32; 385], t: Filling) -> Filling
+fn past_point(file: &[u8], table: &[bool; 256], boxes: &Boxes, t: Filling) -> Filling
     requires { Ready file.now t × HasLine file.now t × (t.records ≡ 0) × (0 < t.points) }
     ensures { (sheet : Bytes) → Looked sheet table.now boxes.now file.now t result }
 {
@@ -98,7 +100,7 @@ pub(crate) fn next_line(
     file: &[u8],
     sheet: &[u8],
     table: &[bool; 256],
-    boxes: &[i32; 385],
+    boxes: &Boxes,
     t: Filling,
 ) -> Filling
     requires { Ready file.now t × HasLine file.now t × (0 < t.records + t.points) }

@@ -7,9 +7,10 @@ ghost use Rattle.sheet.specs.Boxes.{box_count, in_boxes, keeps_by};
 ghost use Rattle.release.specs.BoxIndex.{Covers};
 ghost use Rattle.release.specs.KeptPoints.{kept_points, kept_of, picked, Places, Chooses};
 
-use crate::box_index;
+use crate::box_index::BoxIndex;
 use fields::numbers;
 use points::raw;
+use sheet::boxes::Boxes;
 use sheet::{boxes, class_table};
 
 // How many records are looked at before the kept ones among them are copied: so many stay in the first-level cache.
@@ -55,8 +56,8 @@ fn choose_by_table(
 fn choose_in_boxes(
     block: &[u8],
     record_length: usize,
-    boxes: &[i32; 385],
-    index: &[u64; 198],
+    boxes: &Boxes,
+    index: &BoxIndex,
     k: usize,
     chosen: &mut [usize],
 ) -> usize
@@ -83,7 +84,7 @@ fn choose_in_boxes(
         let end = at + record_length;
         chosen[m] = at;
         let p = raw::stored_of(&block[at..end]);
-        m += one_if(box_index::in_boxes(boxes, n, index, p));
+        m += one_if(index.in_boxes(boxes, n, p));
         j += 1;
     }
     m
@@ -97,8 +98,8 @@ fn choose_by_both(
     record_length: usize,
     n: usize,
     table: &[bool; 256],
-    boxes: &[i32; 385],
-    index: &[u64; 198],
+    boxes: &Boxes,
+    index: &BoxIndex,
     chosen: &mut [usize],
 ) -> usize
     requires { (n ≤ 64)
@@ -121,8 +122,8 @@ pub(crate) fn choose(
     record_length: usize,
     n: usize,
     table: &[bool; 256],
-    boxes: &[i32; 385],
-    index: &[u64; 198],
+    boxes: &Boxes,
+    index: &BoxIndex,
     chosen: &mut [usize],
 ) -> usize
     requires { (n ≤ 64)
@@ -169,7 +170,7 @@ fn count_blocks(
     record_length: usize,
     count: usize,
     table: &[bool; 256],
-    boxes: &[i32; 385],
+    boxes: &Boxes,
 ) -> usize
     requires { (count * record_length ≤ length run.now)
         × (20 ≤ record_length)
@@ -178,7 +179,7 @@ fn count_blocks(
         ≡ length (kept_of (keeps_by table.now boxes.now format) count record_length
         run.now) }
 {
-    let index = box_index::index_of(boxes);
+    let index = BoxIndex::of(boxes);
     let mut chosen = [0usize; BLOCK];
     let mut at = 0;
     let mut n = 0;
@@ -209,7 +210,7 @@ fn count_held(
     record_length: usize,
     count: usize,
     table: &[bool; 256],
-    boxes: &[i32; 385],
+    boxes: &Boxes,
 ) -> usize
     requires { (count * record_length ≤ length run.now) × (20 ≤ record_length) }
     ensures { result
@@ -230,7 +231,7 @@ pub(crate) fn count_points(
     record_length: usize,
     count: usize,
     table: &[bool; 256],
-    boxes: &[i32; 385],
+    boxes: &Boxes,
 ) -> usize
     ensures { result
         ≡ length (kept_points (keeps_by table.now boxes.now format) count record_length

@@ -29,10 +29,11 @@ use fields::refusal::Refusal;
 use fields::slices;
 use lasfile::header;
 use publicpart::{ReleaseError, Released};
+use sheet::boxes::Boxes;
 use sheet::{boxes, class_table};
 
 // How many points of a file a table and boxes keep.
-pub(crate) fn count_kept(file: &[u8], table: &[bool; 256], boxes: &[i32; 385]) -> usize
+pub(crate) fn count_kept(file: &[u8], table: &[bool; 256], boxes: &Boxes) -> usize
     ensures { result ≡ length (kept_in table.now boxes.now file.now) }
 {
     let offset = header::point_offset(file);
@@ -45,13 +46,7 @@ pub(crate) fn count_kept(file: &[u8], table: &[bool; 256], boxes: &[i32; 385]) -
 
 // The room that is asked of an output for points from `start` on. One with room for all the points of the file is asked
 // for that much, and the kept ones are not counted: their number comes out of the writing.
-fn room_for(
-    file: &[u8],
-    table: &[bool; 256],
-    boxes: &[i32; 385],
-    start: usize,
-    room: usize,
-) -> usize
+fn room_for(file: &[u8], table: &[bool; 256], boxes: &Boxes, start: usize, room: usize) -> usize
     requires { start + point_count file.now * record_length file.now < 2 ^ 64 }
     ensures { result ≡ room_asked table.now boxes.now file.now start room }
 {

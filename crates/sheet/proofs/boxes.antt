@@ -1,2 +1,2 @@
 pub mod BoxLaws
-mod NumberLaws
+mod ReadLaws

@@ -1,61 +1,65 @@
--- The boxes of a keep sheet as numbers, which a release reads once, and whether a point lies in one of them.
+-- The boxes of a keep sheet, which a release reads once, and whether a point lies in one of them.
 -- Assumes nothing.
-use Rattle.std.specs.Prelude.{◌≡◌, ℕ, zero, suc, ◌+◌, ◌*◌, ◌<◌, Bool, false, cond, ◌&&◌, ◌||◌, List, [], ◌∷◌, ◌++◌, map, length, get_or, ltb, eqb, ℤ, pos, negsuc}
-use Rattle.fields.specs.Lists.{cons_if, kept}
+use Rattle.std.specs.Prelude.{◌≡◌, ℕ, zero, suc, ◌+◌, ◌<◌, Bool, false, cond, ◌&&◌, ◌||◌, List, map, length, get_or, set, replicate, min, eqb, ℤ, pos}
+use Rattle.fields.specs.Lists.{kept}
 use Rattle.fields.specs.Bytes.{Bytes}
 use Rattle.points.specs.Raw.{stored}
 use Rattle.points.specs.declared.raw.Stored.{Stored}
-use Rattle.sheet.specs.Sheet.{edge, on_every_axis, lines}
+use Rattle.sheet.specs.Sheet.{edge, low, high, on_every_axis, lines}
 use Rattle.sheet.specs.Keeping.{in_range, is_box, in_table}
+use Rattle.sheet.specs.declared.boxes.Edges.{Edges}
+use Rattle.sheet.specs.declared.boxes.Boxes.{Boxes}
 
--- ---- 385 numbers: 64 times number 0 of a box, 64 times number 1, and so on, those of box j at place j of each 64; and
--- how many boxes
+-- ---- on each axis 64 lows and 64 highs, those of box j at place j; and how many boxes
 
 unfoldable pub box_lines : Bytes → List Bytes
 box_lines sheet = kept is_box (lines sheet)
 
--- the six numbers of each of these lines; behind them 0
-abbrev pub Numbered : List Bytes → List ℤ → Type 0
-Numbered bs ns = (i j : ℕ) → i < 6 → j < 64 → get_or ns (64 * i + j) (pos 0) ≡ get_or (map (edge i) bs) j (pos 0)
+-- the edges on an axis: X is 0, Y is 1, Z is 2
+unfoldable pub edges_on : Boxes → ℕ → Edges
+edges_on b zero = b.x
+edges_on b (suc zero) = b.y
+edges_on b (suc (suc n)) = b.z
 
--- the numbers of a sheet's boxes
-abbrev pub BoxesOf : Bytes → List ℤ → Type 0
-BoxesOf sheet ns = Numbered (box_lines sheet) ns × (get_or ns 384 (pos 0) ≡ pos (length (box_lines sheet)))
+-- low and high of box j on an axis
+abbrev pub low_at : Boxes → ℕ → ℕ → ℤ
+low_at b axis j = get_or (edges_on b axis).low j (pos 0)
 
--- ---- of any such numbers
+abbrev pub high_at : Boxes → ℕ → ℕ → ℤ
+high_at b axis j = get_or (edges_on b axis).high j (pos 0)
 
--- a number as one from 0 to 64
-unfoldable pub up_to64 : ℤ → ℕ
-up_to64 (pos n) = cond (ltb n 64) n 64
-up_to64 (negsuc n) = 0
+-- the lows and highs of each of these lines; behind them 0
+abbrev pub Numbered : List Bytes → Boxes → Type 0
+Numbered bs b =
+    (axis j : ℕ) → axis < 3 → j < 64
+    → (low_at b axis j ≡ get_or (map (low axis) bs) j (pos 0)) × (high_at b axis j ≡ get_or (map (high axis) bs) j (pos 0))
 
--- how many boxes they are of
-unfoldable pub box_count : List ℤ → ℕ
-box_count ns = up_to64 (get_or ns 384 (pos 0))
+-- the boxes of a sheet
+abbrev pub BoxesOf : Bytes → Boxes → Type 0
+BoxesOf sheet b = Numbered (box_lines sheet) b × (b.count ≡ length (box_lines sheet))
 
--- low and high of box j on an axis: numbers 2 · axis and 2 · axis + 1 of the box
-abbrev pub low_at : List ℤ → ℕ → ℕ → ℤ
-low_at ns axis j = get_or ns (64 * (2 * axis) + j) (pos 0)
+-- ---- of any boxes
 
-abbrev pub high_at : List ℤ → ℕ → ℕ → ℤ
-high_at ns axis j = get_or ns (64 * (2 * axis + 1) + j) (pos 0)
+-- how many they are: there is room for 64
+unfoldable pub box_count : Boxes → ℕ
+box_count b = min b.count 64
 
 -- whether a stored value lies in box j on an axis
-unfoldable pub in_axis : List ℤ → ℕ → ℕ → ℤ → Bool
-in_axis ns j axis z = in_range (low_at ns axis j) (high_at ns axis j) z
+unfoldable pub in_axis : Edges → ℕ → ℤ → Bool
+in_axis e j z = in_range (get_or e.low j (pos 0)) (get_or e.high j (pos 0)) z
 
 -- whether stored values, by their axis, lie in box j
-unfoldable pub in_box_at : List ℤ → ℕ → (ℕ → ℤ) → Bool
-in_box_at ns j at = on_every_axis (λ axis. in_axis ns j axis (at axis))
+unfoldable pub in_box_at : Boxes → ℕ → (ℕ → ℤ) → Bool
+in_box_at b j at = on_every_axis (λ axis. in_axis (edges_on b axis) j (at axis))
 
 -- in one of the first n
-unfoldable pub in_first : List ℤ → ℕ → (ℕ → ℤ) → Bool
-in_first ns zero at = false
-in_first ns (suc n) at = in_first ns n at || in_box_at ns n at
+unfoldable pub in_first : Boxes → ℕ → (ℕ → ℤ) → Bool
+in_first b zero at = false
+in_first b (suc n) at = in_first b n at || in_box_at b n at
 
 -- in one of them, where there are any
-unfoldable pub in_any : List ℤ → (ℕ → ℤ) → Bool
-in_any ns at = eqb (box_count ns) 0 || in_first ns (box_count ns) at
+unfoldable pub in_any : Boxes → (ℕ → ℤ) → Bool
+in_any b at = eqb (box_count b) 0 || in_first b (box_count b) at
 
 -- the stored values of a point, by their axis
 unfoldable pub along : Stored → ℕ → ℤ
@@ -64,21 +68,39 @@ along p (suc zero) = p.y
 along p (suc (suc n)) = p.z
 
 -- a point by its bytes
-unfoldable pub in_boxes : List ℤ → Bytes → Bool
-in_boxes ns p = in_any ns (λ axis. stored axis p)
+unfoldable pub in_boxes : Boxes → Bytes → Bool
+in_boxes b p = in_any b (λ axis. stored axis p)
 
 -- whether a table and boxes keep a point, by its format and bytes
-unfoldable pub keeps_by : List Bool → List ℤ → ℕ → Bytes → Bool
-keeps_by table boxes f p = in_table table f p && in_boxes boxes p
+unfoldable pub keeps_by : List Bool → Boxes → ℕ → Bytes → Bool
+keeps_by table b f p = in_table table f p && in_boxes b p
 
 -- ---- how the code reads them, line by line; no public contract cites these
 
--- the numbers of a line are put behind those of n
-abbrev pub PutBox : Bytes → ℕ → List ℤ → List ℤ → Type 0
-PutBox l n ns after = (bs : List Bytes) → length bs ≡ n → Numbered bs ns → Numbered (bs ++ l ∷ []) after
+-- none yet
+abbrev pub no_edges : Edges
+no_edges = record { low = replicate 64 (pos 0); high = replicate 64 (pos 0) }
 
--- the same where it is a box; and how many there are with it
-abbrev pub TakesLine : Bytes → ℕ → List ℤ → ℕ → List ℤ → Type 0
-TakesLine l n ns m after =
-    (bs : List Bytes) → length bs ≡ n → Numbered bs ns
-    → Numbered (bs ++ cons_if (is_box l) l []) after × (m ≡ length (bs ++ cons_if (is_box l) l []))
+abbrev pub no_boxes : Boxes
+no_boxes = record { x = no_edges; y = no_edges; z = no_edges; count = 0 }
+
+-- with these edges of box j
+unfoldable pub edges_with : ℕ → ℤ → ℤ → Edges → Edges
+edges_with j low high e = record { low = set e.low j low; high = set e.high j high }
+
+-- with the edges of a line's box behind those of the others
+unfoldable pub with_box : Bytes → Boxes → Boxes
+with_box l b =
+    record {
+      x = edges_with b.count (edge 0 l) (edge 1 l) b.x;
+      y = edges_with b.count (edge 2 l) (edge 3 l) b.y;
+      z = edges_with b.count (edge 4 l) (edge 5 l) b.z;
+      count = b.count;
+    }
+
+-- and counted, where the line is a box
+abbrev pub counted : Boxes → Boxes
+counted b = record { x = b.x; y = b.y; z = b.z; count = b.count + 1 }
+
+unfoldable pub with_line : Boxes → Bytes → Boxes
+with_line b l = cond (is_box l) (counted (with_box l b)) b

@@ -1,15 +1,73 @@
-// The boxes of a keep sheet as numbers, read once for a release, and whether a point lies in one of them.
-// These are 385 numbers: 64 low X, 64 high X, 64 low Y, 64 high Y, 64 low Z and 64 high Z, those of box j at place j of
-// each 64, so that one number of several boxes is read at once; and last how many boxes there are.
-ghost use Rattle.std.specs.Prelude.{◌≡◌, ◌≤◌, ◌<◌, ◌&&◌, eqb, ltb, length};
+// The boxes of a keep sheet, read once for a release, and whether a point lies in one of them.
+ghost use Rattle.std.specs.Prelude.{◌≡◌, ◌≤◌, ◌<◌, ◌&&◌, eqb, ltb};
 ghost use Rattle.sheet.specs.Keeping.{is_box};
-ghost use Rattle.sheet.specs.Boxes.{BoxesOf, PutBox, TakesLine, box_count, in_axis, along, in_box_at, in_first, in_any, in_boxes, keeps_by};
+ghost use Rattle.sheet.specs.Boxes.{BoxesOf, no_edges, no_boxes, edges_with, with_box, with_line, box_count, in_axis, along, in_box_at, in_first, in_any, in_boxes, keeps_by};
 
 use crate::class_table;
 use points::raw;
 
-// Where the number of boxes stands.
-const COUNT: usize = 384;
+// The lows and the highs of boxes on one axis, those of box j at place j, so that one edge of several boxes is read at
+// once.
+#[derive(Clone, Copy, Debug, PartialEq, Eq)]
+pub struct Edges {
+    pub low: [i32; 64],
+    pub high: [i32; 64],
+}
+
+// The edges of up to 64 boxes on each axis, and how many boxes there are.
+#[derive(Clone, Copy, Debug, PartialEq, Eq)]
+pub struct Boxes {
+    pub x: Edges,
+    pub y: Edges,
+    pub z: Edges,
+    pub count: usize,
+}
+
+// No edges yet.
+impl Default for Edges {
+    fn default() -> Edges
+        ensures { result ≡ no_edges }
+    {
+        Edges {
+            low: [0; 64],
+            high: [0; 64],
+        }
+    }
+}
+
+// No boxes yet.
+impl Default for Boxes {
+    fn default() -> Boxes
+        ensures { result ≡ no_boxes }
+    {
+        Boxes {
+            x: Edges::default(),
+            y: Edges::default(),
+            z: Edges::default(),
+            count: 0,
+        }
+    }
+}
+
+impl Edges {
+    // Puts the edges of box j.
+    #[tactic(auto, unfolding(crate::specs::Boxes::edges_with))]
+    fn put(&mut self, j: usize, low: i32, high: i32)
+        requires { j < 64 }
+        ensures { self.new ≡ edges_with j low high self.old }
+    {
+        self.low[j] = low;
+        self.high[j] = high;
+    }
+
+    // Whether a stored value lies in box j on this axis.
+    fn holds(&self, j: usize, z: i32) -> bool
+        requires { j < 64 }
+        ensures { result ≡ in_axis self.now j z }
+    {
+        (self.low[j] <= z) & (z <= self.high[j])
+    }
+}
 
 fn is_box(line: &[u8]) -> bool
     ensures { result ≡ is_box line.now }
@@ -17,88 +75,71 @@ fn is_box(line: &[u8]) -> bool
     fields::numbers::u8_at(line, crate::KIND) == crate::BOX
 }
 
-// Puts the six numbers of a box behind those of n boxes.
-fn put_box(line: &[u8], n: usize, boxes: &mut [i32])
-    requires { (n < 64) × (length boxes.old ≡ 385) }
-    ensures { PutBox line.now n boxes.old boxes.new }
+// Puts the edges of a line's box behind those of the others.
+fn put_box(line: &[u8], boxes: &mut Boxes)
+    requires { boxes.old.count < 64 }
+    ensures { boxes.new ≡ with_box line.now boxes.old }
 {
-    let mut i = 0;
-    while i < 6 {
-        let number = crate::edge(line, i);
-        boxes[64 * i + n] = number;
-        i += 1;
-    }
+    let j = boxes.count;
+    boxes.x.put(j, crate::edge(line, 0), crate::edge(line, 1));
+    boxes.y.put(j, crate::edge(line, 2), crate::edge(line, 3));
+    boxes.z.put(j, crate::edge(line, 4), crate::edge(line, 5));
 }
 
-// The same for a line that is a box; and how many boxes there are with it.
-fn take_line(line: &[u8], n: usize, boxes: &mut [i32]) -> usize
-    requires { (n < 64) × (length boxes.old ≡ 385) }
-    ensures { TakesLine line.now n boxes.old result boxes.new }
+// The same for a line that is a box, and counts it; one that is none changes nothing.
+#[tactic(auto, unfolding(crate::specs::Boxes::with_line, crate::specs::Boxes::with_box))]
+fn take_line(line: &[u8], boxes: &mut Boxes)
+    requires { boxes.old.count < 64 }
+    ensures { boxes.new ≡ with_line boxes.old line.now }
 {
     if is_box(line) {
-        put_box(line, n, boxes);
-        return n + 1;
+        put_box(line, boxes);
+        boxes.count += 1;
     }
-    n
 }
 
-// The numbers of a sheet's boxes. They are read once for a release, so that no point is looked up in the sheet.
-pub fn boxes_of(sheet: &[u8]) -> [i32; 385]
+// The boxes of a sheet. They are read once for a release, so that no point is looked up in the sheet.
+pub fn boxes_of(sheet: &[u8]) -> Boxes
     ensures { BoxesOf sheet.now result }
 {
-    let mut boxes = [0i32; 385];
-    let mut n = 0;
+    let mut boxes = Boxes::default();
     let mut rest = sheet;
     let mut left = crate::MOST_LINES;
     while (0 < rest.len()) & (0 < left) {
         let line = crate::first_line(rest);
-        n = take_line(line, n, &mut boxes);
+        take_line(line, &mut boxes);
         let next = crate::after_line(rest);
         rest = next;
         left -= 1;
     }
-    boxes[COUNT] = n as i32;
     boxes
 }
 
-// How many boxes numbers are of, from 0 to 64.
-pub fn count(boxes: &[i32; 385]) -> usize
+// How many boxes there are, from 0 to 64.
+#[tactic(auto, unfolding(crate::specs::Boxes::box_count))]
+pub fn count(boxes: &Boxes) -> usize
     ensures { (result ≡ box_count boxes.now) × (result ≤ 64) }
 {
-    let n = boxes[COUNT];
-    if n < 0 {
-        return 0;
-    }
-    if n < 64 { n as usize } else { 64 }
+    boxes.count.min(64)
 }
 
-// Whether numbers have no box at all.
-pub fn no_box(boxes: &[i32; 385]) -> bool
+// Whether there is no box at all.
+pub fn no_box(boxes: &Boxes) -> bool
     ensures { result ≡ eqb (box_count boxes.now) 0 }
 {
     count(boxes) == 0
 }
 
-// Whether a stored value lies in box j on an axis.
-fn in_axis(boxes: &[i32; 385], axis: usize, j: usize, z: i32) -> bool
-    requires { (axis < 3) × (j < 64) }
-    ensures { result ≡ in_axis boxes.now j axis z }
-{
-    let low = boxes[64 * (2 * axis) + j];
-    let high = boxes[64 * (2 * axis + 1) + j];
-    (low <= z) & (z <= high)
-}
-
 // Whether stored values lie in box j.
-fn in_box_at(boxes: &[i32; 385], j: usize, p: raw::Stored) -> bool
+fn in_box_at(boxes: &Boxes, j: usize, p: raw::Stored) -> bool
     requires { j < 64 }
     ensures { result ≡ in_box_at boxes.now j (along p) }
 {
-    in_axis(boxes, 0, j, p.x) & (in_axis(boxes, 1, j, p.y) & in_axis(boxes, 2, j, p.z))
+    boxes.x.holds(j, p.x) & (boxes.y.holds(j, p.y) & boxes.z.holds(j, p.z))
 }
 
 // The same of any j: there is room for 64 boxes.
-pub fn in_box(boxes: &[i32; 385], j: usize, p: raw::Stored) -> bool
+pub fn in_box(boxes: &Boxes, j: usize, p: raw::Stored) -> bool
     ensures { result ≡ (ltb j 64 && in_box_at boxes.now j (along p)) }
 {
     if 64 <= j {
@@ -109,22 +150,19 @@ pub fn in_box(boxes: &[i32; 385], j: usize, p: raw::Stored) -> bool
 
 // Whether they lie in one of the first n boxes. All are looked at, with no branch, so that the compiler looks at
 // several at once.
-fn in_first(boxes: &[i32; 385], n: usize, p: raw::Stored) -> bool
+fn in_first(boxes: &Boxes, n: usize, p: raw::Stored) -> bool
     requires { n ≤ 64 }
     ensures { result ≡ in_first boxes.now n (along p) }
 {
     let mut found = false;
-    let mut j = 0;
-    while j < n {
-        let inside = in_box_at(boxes, j, p);
-        found = found | inside;
-        j += 1;
+    for j in 0..n {
+        found |= in_box_at(boxes, j, p);
     }
     found
 }
 
 // Whether they lie in one of the boxes, where there are any.
-pub fn in_any(boxes: &[i32; 385], p: raw::Stored) -> bool
+pub fn in_any(boxes: &Boxes, p: raw::Stored) -> bool
     ensures { result ≡ in_any boxes.now (along p) }
 {
     let n = count(boxes);
@@ -132,7 +170,7 @@ pub fn in_any(boxes: &[i32; 385], p: raw::Stored) -> bool
 }
 
 // Whether a point does, by its bytes.
-fn in_boxes(boxes: &[i32; 385], point: &[u8]) -> bool
+fn in_boxes(boxes: &Boxes, point: &[u8]) -> bool
     ensures { result ≡ in_boxes boxes.now point.now }
 {
     in_any(boxes, raw::stored_of(point))
@@ -140,7 +178,7 @@ fn in_boxes(boxes: &[i32; 385], point: &[u8]) -> bool
 
 // Whether a table and boxes keep a point. Boxes are asked only where the table keeps it. Whether there is one is asked
 // first, so that the loop that fills a list has little to pass where there is none.
-pub fn keeps_by(table: &[bool; 256], boxes: &[i32; 385], format: u8, point: &[u8]) -> bool
+pub fn keeps_by(table: &[bool; 256], boxes: &Boxes, format: u8, point: &[u8]) -> bool
     ensures { result ≡ keeps_by table.now boxes.now format point.now }
 {
     if no_box(boxes) {

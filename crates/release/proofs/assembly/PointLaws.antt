@@ -9,7 +9,7 @@ use mathlib.Core.Bool.{Bool, true, false, cond}
 use mathlib.Core.List.{List, [], ◌++◌, append-nil}
 use lib.ListN.{length, take, drop, length-drop, drop_of_length-le}
 use lib.Dec.{leb}
-use lib.IntN.{ℤ}
+use Rattle.sheet.specs.declared.boxes.Boxes.{Boxes}
 use borrow.Author.Tests.{leb-true, le-leb, lt-leb}
 use Rattle.fields.specs.Lists.{list_if}
 use Rattle.fields.specs.Bytes.{Bytes, join, pieces, zeros}
@@ -33,7 +33,7 @@ few_points : (count len : ℕ) (run : Bytes) → length (points_of count len run
 unfolding points_of
 few_points count len run = few_held (in_run count len (length run)) count len run
 
-module _ (table : List Bool) (boxes : List ℤ) (s : Bytes) where
+module _ (table : List Bool) (boxes : Boxes) (s : Bytes) where
   pub kept_in_lem : kept_in table boxes s ≡ kept_points (keeps_by table boxes (format s)) (point_count s) (record_length s) (drop (point_offset s) s)
   unfolding kept_in
   kept_in_lem = refl

@@ -5,7 +5,7 @@ use Prim.Native.Nat.{ℕ, ◌+◌, ◌<◌, ◌≤◌}
 use native.Mathlib.Omega.{arith}
 use mathlib.Core.Bool.{Bool, true, false}
 use mathlib.Core.List.{List, [], ◌++◌, append_assoc}
-use lib.IntN.{ℤ}
+use Rattle.sheet.specs.declared.boxes.Boxes.{Boxes}
 use lib.ListN.{length, take, drop, set, length-append, length-set, take-append-drop}
 use lib.Seq.{length-take-le, take_at, drop-set-lt}
 use borrow.Author.Tests.{ltb-true, ltb-false}
@@ -26,7 +26,7 @@ here t = span t.place t.length
 -- n lines are to be filled into the list as it was, ys; the filling stands at t, and the list is zs. Its lines before
 -- line k and those of what is still to look at are all the lines. Line k may be any, and from line n on the list is as
 -- it was
-pub record Filled (sheet : Bytes) (table : List Bool) (boxes : List ℤ) (s : Bytes) (n : ℕ) (ys : List Span) (t : Filling) (zs : List Span) : Type 0 where
+pub record Filled (sheet : Bytes) (table : List Bool) (boxes : Boxes) (s : Bytes) (n : ℕ) (ys : List Span) (t : Filling) (zs : List Span) : Type 0 where
   pub ready : Ready s t
   pub hand : HasLine s t
   pub bound : t.n ≡ n
@@ -35,7 +35,7 @@ pub record Filled (sheet : Bytes) (table : List Bool) (boxes : List ℤ) (s : By
   pub back : drop n zs ≡ drop n ys
   pub long : length zs ≡ length ys
 
-module _ (sheet : Bytes) (table : List Bool) (boxes : List ℤ) (s : Bytes) (n : ℕ) (ys : List Span) where
+module _ (sheet : Bytes) (table : List Bool) (boxes : Boxes) (s : Bytes) (n : ℕ) (ys : List Span) where
   pub first_turn : (t : Filling) → Begun s n t → HasLine s t → Filled sheet table boxes s n ys t ys
   first_turn t b h = record {
     ready = b.ready;

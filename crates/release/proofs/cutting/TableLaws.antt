@@ -5,7 +5,7 @@ use Prim.Native.Nat.{ℕ}
 use mathlib.Core.Bool.{Bool}
 use mathlib.Core.List.{List, ◌++◌, map}
 use lib.ListN.{drop}
-use lib.IntN.{ℤ}
+use Rattle.sheet.specs.declared.boxes.Boxes.{Boxes}
 use Rattle.fields.specs.Bytes.{Bytes, AllBytes, part}
 use Rattle.fields.proofs.ListLaws.{kept_same, all_of}
 use Rattle.fields.proofs.ByteLaws.{take_bytes, drop_bytes}
@@ -17,7 +17,7 @@ use Rattle.publicpart.specs.declared.Span.{Span}
 use Rattle.publicpart.specs.Cutting.{span, strides, payload_lines, piece_lines, record_lines, point_lines, cutting_lines}
 use Rattle.release.specs.Filling.{lines_of, table_lines}
 
-module _ (sheet s : Bytes) (bytes : AllBytes s) (table : List Bool) (right : TableOf sheet (format s) table) (boxes : List ℤ) (read : BoxesOf sheet boxes) where
+module _ (sheet s : Bytes) (bytes : AllBytes s) (table : List Bool) (right : TableOf sheet (format s) table) (boxes : Boxes) (read : BoxesOf sheet boxes) where
   same_test : (a : ℕ) → keeps_by table boxes (format s) (part a (record_length s) s) ≡ keeps_point sheet (format s) (part a (record_length s) s)
   same_test a = keeps_by_lem sheet (format s) table boxes right read (part a (record_length s) s) (unfold part in take_bytes (record_length s) (drop a s) (drop_bytes a s bytes))
 

@@ -6,7 +6,7 @@ use native.Mathlib.Omega.{arith}
 use mathlib.Core.Bool.{Bool, cond}
 use mathlib.Core.List.{List, [], ◌++◌}
 use lib.ListN.{length, drop}
-use lib.IntN.{ℤ}
+use Rattle.sheet.specs.declared.boxes.Boxes.{Boxes}
 use Rattle.fields.specs.Lists.{kept, cons_if}
 use Rattle.fields.specs.Bytes.{Bytes, part}
 use Rattle.fields.proofs.ListLaws.{cons_if-append, map-cons_if}
@@ -35,7 +35,7 @@ at_point s (suc n) at point_at h = absurd (omega arith)
 
 -- ---- the lines of n records and m points, and of one less
 
-module _ (sheet : Bytes) (table : List Bool) (boxes : List ℤ) (s : Bytes) where
+module _ (sheet : Bytes) (table : List Bool) (boxes : Boxes) (s : Bytes) where
   abbrev records : ℕ → ℕ → List Span
   records n at = payload_lines sheet s n at
 
@@ -171,7 +171,7 @@ module _ (s : Bytes) where
   ready_with_line t r =
       record { format = r.format; size = r.size; short = r.short; few = r.few; records_low = r.records_low; points_low = r.points_low }
 
-  pub looked_with_line : (sheet : Bytes) (table : List Bool) (boxes : List ℤ) (t r : Filling) → Looked sheet table boxes s t r → Looked sheet table boxes s t (with_line s r)
+  pub looked_with_line : (sheet : Bytes) (table : List Bool) (boxes : Boxes) (t r : Filling) → Looked sheet table boxes s t r → Looked sheet table boxes s t (with_line s r)
   unfolding lines_of
   looked_with_line sheet table boxes t r l =
       record { ready = ready_with_line r l.ready; bound = l.bound; keep = l.keep; count = l.count; lines = l.lines; fewer = l.fewer }

@@ -5,7 +5,7 @@ use Prim.Native.Nat.{ℕ, ◌*◌}
 use mathlib.Core.Bool.{Bool, true, false, and-true}
 use mathlib.Core.List.{List, []}
 use lib.Dec.{eqb}
-use lib.IntN.{ℤ}
+use Rattle.sheet.specs.declared.boxes.Boxes.{Boxes}
 use lib.ListN.{length}
 use Rattle.fields.specs.Lists.{All, kept}
 use Rattle.fields.specs.Bytes.{Bytes, join, pieces}
@@ -40,11 +40,11 @@ length-kept_points keep count len run =
 
 -- ---- with no box the table decides
 
-by_table : (table : List Bool) (boxes : List ℤ) (f : ℕ) → eqb (box_count boxes) 0 ≡ true → (p : Bytes) → in_table table f p ≡ keeps_by table boxes f p
+by_table : (table : List Bool) (boxes : Boxes) (f : ℕ) → eqb (box_count boxes) 0 ≡ true → (p : Bytes) → in_table table f p ≡ keeps_by table boxes f p
 unfolding keeps_by in_boxes in_any
 by_table table boxes f none p = rw none (sym (and-true (in_table table f p)))
 
-pub kept_by_table : (table : List Bool) (boxes : List ℤ) (f n w : ℕ) (s : Bytes) → eqb (box_count boxes) 0 ≡ true
+pub kept_by_table : (table : List Bool) (boxes : Boxes) (f n w : ℕ) (s : Bytes) → eqb (box_count boxes) 0 ≡ true
     → kept_of (in_table table f) n w s ≡ kept_of (keeps_by table boxes f) n w s
 kept_by_table table boxes f n w s none =
     let ps = pieces n w s in

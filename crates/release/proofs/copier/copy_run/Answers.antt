@@ -73,7 +73,7 @@ copy_block-k-requires c =
     let few = some (goal.at.copy_block-k-requires c).After-least-n in
     let long : length (part l.at (n * a.record_length) a.run.now) ≡ n * a.record_length = length_part l.at (n * a.record_length) a.run.now (inside (goal.at.copy_block-k-requires c).After-least-n) in
     rw (lent_record l.at (n * a.record_length) a.run.now, tail_part l.out l.to, length-drop)
-    (few.2, omega (arith, few, l.invariant.1), omega (arith, long), c.requires.0, c.index_of-index.ensures, omega (arith, fits (goal.at.copy_block-k-requires c).After-least-n, l.invariant.0.same))
+    (few.2, omega (arith, few, l.invariant.1), omega (arith, long), c.requires.0, c.of-index.ensures, omega (arith, fits (goal.at.copy_block-k-requires c).After-least-n, l.invariant.0.same))
 
 -- the output after the block
 abbrev after : After-slice_known-in-loop-left-1 → Bytes

@@ -1,6 +1,7 @@
 -- `filling::next_line` meets its contract. Assumes nothing.
 use native.Mathlib.Omega.{arith}
 use mathlib.Core.List.{[]}
+use Rattle.sheet.specs.Boxes.{no_boxes}
 use Rattle.release.proofs.filling.LineLaws.{stands, looked_with_line}
 use Rattle.release.proofs.filling.next_line.Goals as goal
 
@@ -8,7 +9,7 @@ pub past_record-requires : goal.past_record-requires
 past_record-requires c = let pre = c.requires in (pre.0, pre.1, c.if-t-gt0.true)
 
 pub with_line-requires : goal.with_line-requires
-with_line-requires c = (c.past_record.ensures [] []).ready
+with_line-requires c = (c.past_record.ensures [] no_boxes).ready
 
 pub returns-then-t-gt0 : goal.returns-then-t-gt0
 returns-then-t-gt0 c =

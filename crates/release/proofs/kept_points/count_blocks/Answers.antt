@@ -45,7 +45,7 @@ choose_by_both-n-requires c =
     let few = some (goal.at.choose_by_both-n-requires c).After-least-m in
     let long : length (part l.at (n * a.record_length) a.run.now) ≡ n * a.record_length = length_part l.at (n * a.record_length) a.run.now (inside (goal.at.choose_by_both-n-requires c).After-least-m) in
     rw (lent_record l.at (n * a.record_length) a.run.now)
-    (few.2, omega (arith, few, l.invariant.1), omega (arith, long), c.requires.1, c.requires.2, c.index_of-index.ensures)
+    (few.2, omega (arith, few, l.invariant.1), omega (arith, long), c.requires.1, c.requires.2, c.of-index.ensures)
 
 -- as many are counted as are kept of the block
 counted : (d : After-chosen-in-loop-left-1) → d.choose_by_both-n.result ≡ length (kept_of (keeps_by d.args.table.now d.args.boxes.now d.args.format) d.least-m.result d.args.record_length (part d.loop-left.at (d.least-m.result * d.args.record_length) d.args.run.now))

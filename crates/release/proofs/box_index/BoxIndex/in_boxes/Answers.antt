@@ -1,4 +1,4 @@
--- `box_index::in_boxes` meets its contract. Assumes nothing.
+-- `box_index::BoxIndex::in_boxes` meets its contract. Assumes nothing.
 use native.Mathlib.Omega.{arith}
 use mathlib.Core.Path.{◌≡◌, ◌∙◌}
 use borrow.Author.Tests.{lt-ltb}
@@ -9,7 +9,7 @@ use lib.Dec.{ltb}
 use lib.Count.{count_trailing_zeros}
 use Rattle.sheet.specs.Boxes.{along, in_box_at, in_first}
 use Rattle.release.proofs.box_index.NearLaws.{one_says, one_at_most, any_first}
-use Rattle.release.proofs.box_index.in_boxes.Goals as goal
+use Rattle.release.proofs.box_index.BoxIndex.in_boxes.Goals as goal
 
 -- the only box
 pub returns-then-n-eq1 : goal.returns-then-n-eq1
@@ -30,5 +30,5 @@ returns-then-near-j c =
     let inside : ltb j a.n && c.in_box-2.result ≡ ltb j a.n && in_box_at a.boxes.now j (along a.p) =
     rw (c.in_box-2.ensures, lt-ltb j 64 small) in
     let indexed = rw (← c.requires.1) at (c.requires.2 (rw (← c.requires.1) several)) in
-    one_says a.boxes.now a.index.now a.n indexed a.p near.result j near.ensures (one_at_most near.result j small c.if-near-j.true) _ inside
+    one_says a.boxes.now a.self.now a.n indexed a.p near.result j near.ensures (one_at_most near.result j small c.if-near-j.true) _ inside
     ∙ any_first a.boxes.now a.n (along a.p) c.requires.0 c.requires.1
