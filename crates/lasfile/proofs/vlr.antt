@@ -1,2 +1,3 @@
 pub mod RecordLaws
 pub mod FieldLaws
+pub mod PlacedLaws

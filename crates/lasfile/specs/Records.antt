@@ -4,6 +4,7 @@
 use Rattle.std.specs.Prelude.{ℕ, zero, suc, ◌+◌, ◌^◌, ◌<◌, List, [], ◌∷◌, map, length, drop}
 use Rattle.fields.specs.Bytes.{Bytes, part, num, bytes_of, zeros, join}
 use Rattle.fields.specs.Text.{cut, padded, Held}
+use Rattle.lasfile.specs.HeaderFields.{header_size, record_count}
 
 -- what a record says: its reserved bytes and text tails are outside it
 pub record Record : Type 0 where
@@ -49,6 +50,15 @@ places lw (suc n) at s = at ∷ places lw n (at + size_of lw (drop at s)) s
 unfoldable pub walk_end : ℕ → ℕ → ℕ → Bytes → ℕ
 walk_end lw zero at s = at
 walk_end lw (suc n) at s = walk_end lw n (at + size_of lw (drop at s)) s
+
+-- those records, each by its place and the bytes from there on; s are the bytes from the first on
+unfoldable pub placed : ℕ → ℕ → Bytes → List (ℕ × Bytes)
+placed zero at s = []
+placed (suc n) at s = (at, s) ∷ placed n (at + size_of 2 s) (drop (size_of 2 s) s)
+
+-- the records that a file counts
+unfoldable pub counted : Bytes → List (ℕ × Bytes)
+counted s = placed (record_count s) (header_size s) (drop (header_size s) s)
 
 abbrev pub record_at : ℕ → Bytes → ℕ → Record
 record_at lw s at = record_of lw (drop at s)

@@ -76,10 +76,8 @@ fn check_scaling(file: &[u8]) -> Result<(), Refusal>
 fn check_contents(file: &[u8]) -> Result<(), Refusal>
     ensures { verdict_of result ≡ first_failing (drop 7 (file_checks file.now)) }
 {
-    let size = header::header_size(file);
     let offset = header::point_offset(file);
-    let count = header::record_count(file);
-    if !vlr::records_fit(file, count, size, offset) {
+    if !vlr::records_fit(file, offset) {
         return Err(Refusal::RecordsPastOffset);
     }
     let length = header::record_length(file);

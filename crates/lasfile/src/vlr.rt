@@ -1,6 +1,11 @@
 // Variable length records: the walk from one to the next.
-ghost use Rattle.std.specs.Prelude.{◌≡◌, ◌<◌, ◌^◌, leb, drop};
-ghost use Rattle.lasfile.specs.Records.{payload_length, size_of, walk_end};
+ghost use Rattle.std.specs.Prelude.{◌≡◌, ◌+◌, ◌*◌, ◌<◌, ◌≤◌, ◌^◌, leb, drop};
+ghost use Rattle.std.specs.Iterator.{YieldsFirstBy, at_most};
+ghost use Rattle.lasfile.specs.FileChecks.{records_end};
+ghost use Rattle.lasfile.specs.Records.{payload_length, size_of, placed, counted};
+
+use crate::header;
+use fields::slices;
 
 // The bytes of a record's header, and the places of its fields behind the two reserved bytes.
 pub const FRONT: usize = 54;
@@ -30,23 +35,73 @@ pub fn size_at(file: &[u8], at: usize) -> usize
     FRONT + payload_length_at(file, at)
 }
 
-// Whether `count` records from a place on end by `end`. It stops at the first that does not, so that a damaged count
-// costs no more steps than there are headers before `end`.
-pub(crate) fn records_fit(file: &[u8], count: usize, from: usize, end: usize) -> bool
-    ensures { result ≡ leb (walk_end 2 count from file.now) end }
-{
-    let mut at = from;
-    let mut left = count;
-    while 0 < left {
-        if !fields::numbers::fits_in(end, at, FRONT) {
-            return false;
+// A record: its place in the file, and the bytes from there on, of which a damaged file may have few or none.
+#[derive(Clone, Copy, Debug, PartialEq, Eq)]
+pub struct Vlr<'a> {
+    pub place: usize,
+    pub bytes: &'a [u8],
+}
+
+// The counted records of a file that are left to walk, the first of them at a place and with the bytes from there on. A
+// damaged file may count records that it does not have: each takes a step.
+#[derive(Clone, Copy, Debug, PartialEq, Eq)]
+pub struct Records<'a> {
+    place: usize,
+    rest: &'a [u8],
+    left: usize,
+    ghost in_range: { place + left * 2 ^ 17 < 2 ^ 50 },
+}
+
+#[tactic(auto, unfolding(crate::specs::Records::counted), using(crate::proofs::vlr::PlacedLaws::walks))]
+impl<'a> Records<'a> {
+    pub fn new(file: &'a [u8]) -> Records<'a>
+        ensures { placed result.left result.place result.rest.now ≡ counted file.now }
+    {
+        let place = header::header_size(file);
+        Records {
+            place,
+            rest: slices::part_at(file, place, file.len()),
+            left: header::record_count(file),
         }
-        let size = size_at(file, at);
-        if !fields::numbers::fits_in(end, at, size) {
-            return false;
-        }
-        at += size;
-        left -= 1;
     }
-    at <= end
+}
+
+#[tactic(auto, using(crate::proofs::vlr::PlacedLaws::walks))]
+impl<'a> Iterator for Records<'a> {
+    type Item = Vlr<'a>;
+
+    ghost remaining = { λ r. at_most r.left };
+
+    ghost next_gives = { YieldsFirstBy (λ v. (v.place, v.bytes.now)) (λ r. placed r.left r.place r.rest.now) };
+
+    fn next(&mut self) -> Option<Vlr<'a>> {
+        let Records { place, rest, left } = *self;
+        if left == 0 {
+            return None;
+        }
+        let size = size_at(rest, 0);
+        *self = Records {
+            place: place + size,
+            rest: slices::part_at(rest, size, rest.len()),
+            left: left - 1,
+        };
+        Some(Vlr { place, bytes: rest })
+    }
+}
+
+// Whether the counted records of a file end by `end`. It stops at the first that does not, so that a damaged count
+// costs no more steps than there are headers before `end`.
+#[tactic(auto, using(crate::proofs::vlr::PlacedLaws::end_by))]
+pub(crate) fn records_fit(file: &[u8], end: usize) -> bool
+    ensures { result ≡ leb (records_end file.now) end }
+{
+    if end < header::header_size(file) {
+        return false;
+    }
+    for vlr in Records::new(file) {
+        if !fields::numbers::fits_in(end, vlr.place, size_at(vlr.bytes, 0)) {
+            return false;
+        }
+    }
+    true
 }

@@ -13,9 +13,7 @@ use Rattle.lasfile.proofs.check_contents.Goals as goal
 
 -- what walking the records says
 ends : (c : After-records_fit) → c.records_fit.result ≡ leb (records_end c.args.file.now) (point_offset c.args.file.now)
-unfolding records_end
-ends c =
-    c.records_fit.ensures ∙ rw (c.record_count-count.ensures.0, c.point_offset-offset.ensures.0, c.header_size-size.ensures.0)
+ends c = c.records_fit.ensures ∙ rw c.point_offset-offset.ensures.0
 
 pub record_length-length-requires : goal.record_length-length-requires
 record_length-length-requires c = tt

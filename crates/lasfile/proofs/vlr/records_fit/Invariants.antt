@@ -1,10 +1,11 @@
 -- What the loop of `vlr::records_fit` keeps: the records still to walk end where all of them do. Assumes nothing.
-use mathlib.Core.Path.{◌≡◌}
-use Rattle.lasfile.specs.Records.{walk_end}
+use Rattle.std.proofs.Common.{◌≡◌}
+use Rattle.lasfile.specs.Records.{placed, counted}
+use Rattle.lasfile.proofs.vlr.PlacedLaws.{all_fit}
 use Rattle.lasfile.proofs.vlr.records_fit.Given as goal
 
-abbrev pub invariant-loop-left : goal.invariant-loop-left
-invariant-loop-left l = walk_end 2 l.count l.from l.file ≡ walk_end 2 l.left l.at l.file
-
-abbrev pub decreases-loop-left : goal.decreases-loop-left
-decreases-loop-left l = l.left
+abbrev pub invariant-loop-vlr : goal.invariant-loop-vlr
+invariant-loop-vlr l =
+    record {
+      same : all_fit l.end (placed l.vlr-iterator.left l.vlr-iterator.place l.vlr-iterator.rest.now) ≡ all_fit l.end (counted l.file);
+    }

@@ -1,0 +1,56 @@
+-- The counted records of a file, one at a time, and where they end.
+-- Assumes nothing.
+use Rattle.std.proofs.Common.{◌≡◌, ℕ, zero, suc, ◌+◌, ◌<◌, Bool, true, false, ◌&&◌, leb, List, [], ◌∷◌, length, drop, refl, sym, ◌∙◌, add-one, arith}
+use Rattle.std.proofs.lemmas.Grind.{common_steps}
+use Rattle.std.proofs.lemmas.List.{drop-drop}
+use Rattle.std.specs.List.{list_all}
+use Rattle.fields.specs.Bytes.{Bytes, part}
+use Rattle.fields.proofs.ByteLaws.{from_place}
+use Rattle.lasfile.specs.HeaderFields.{header_size, record_count}
+use Rattle.lasfile.specs.Records.{size_of, placed, counted, walk_end}
+use Rattle.lasfile.specs.FileChecks.{records_end}
+
+pub placed_none : (n at : ℕ) (s : Bytes) → n ≡ 0 → placed n at s ≡ []
+unfolding placed
+placed_none n at s h = rw h refl
+
+-- the record at hand, and the others behind its end
+pub placed_step : (n m at size : ℕ) (s rest : Bytes) → n ≡ m + 1 → size ≡ size_of 2 s → rest ≡ part size (length s) s
+    → placed n at s ≡ (at, s) ∷ placed m (at + size) rest
+unfolding placed
+placed_step n m at size s rest h e r = rw (h, add-one, r, from_place, e) refl
+
+pub ruleset walks = (placed_none, from_place)
+
+-- ---- whether they end by a place
+
+abbrev pub fits : ℕ → ℕ × Bytes → Bool
+fits end r = leb (r.0 + size_of 2 r.1) end
+
+abbrev pub all_fit : ℕ → List (ℕ × Bytes) → Bool
+all_fit end rs = list_all (fits end) rs
+
+-- a place and a later one
+both : (at n end : ℕ) (b : Bool) → leb at end && (leb (at + n) end && b) ≡ leb (at + n) end && b
+both at n end b = grind (arith, common_steps)
+
+walk_fits : (n at end : ℕ) (s : Bytes) → leb (walk_end 2 n at s) end ≡ leb at end && all_fit end (placed n at (drop at s))
+unfolding walk_end placed
+walk_fits zero at end s = grind (arith, common_steps)
+walk_fits (suc n) at end s =
+    let size : ℕ = size_of 2 (drop at s) in
+    walk_fits n (at + size) end s ∙ rw drop-drop (sym (both at size end _))
+
+pub end_by : (s : Bytes) (end : ℕ) → leb (records_end s) end ≡ leb (header_size s) end && all_fit end (counted s)
+unfolding records_end counted
+end_by s end = walk_fits (record_count s) (header_size s) end s
+
+pub header_past : (s : Bytes) (end : ℕ) → end < header_size s → false ≡ leb (records_end s) end
+header_past s end h = sym (end_by s end ∙ grind (arith, common_steps))
+
+module _ (end place size : ℕ) (s b : Bytes) (left rest : List (ℕ × Bytes)) (here : left ≡ (place, b) ∷ rest) (same : all_fit end left ≡ all_fit end (counted s)) (long : size ≡ size_of 2 b) where
+  pub one_past : leb (place + size) end ≡ false → false ≡ leb (records_end s) end
+  one_past h = sym (end_by s end ∙ rw (← same, here, ← long, h) (grind (arith, common_steps)))
+
+  pub one_fits : leb (place + size) end ≡ true → all_fit end rest ≡ all_fit end (counted s)
+  one_fits h = sym (rw (← same, here, ← long, h) refl)
