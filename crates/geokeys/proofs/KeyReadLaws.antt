@@ -2,17 +2,18 @@
 -- Assumes nothing.
 use mathlib.Core.Path.{◌≡◌, refl}
 use mathlib.Core.Option.{Option, none, some}
-use Prim.Native.Nat.{ℕ, ◌+◌, ◌*◌, ◌≤◌, ◌<◌, ◌^◌}
+use Prim.Native.Nat.{ℕ, ◌+◌, ◌≤◌, ◌<◌, ◌^◌}
 use native.Mathlib.Omega.{arith}
 use lib.ListN.{length, drop}
 use Rattle.fields.specs.Bytes.{Bytes, AllBytes}
 use Rattle.fields.specs.Checks.{first_failing, Verdict, Passes, Fails}
 use Rattle.fields.proofs.ByteLaws.{num-part-lt, length-part-le, length-pieces}
-use Rattle.fields.proofs.CheckLaws.{none_fails, then_passed}
+use Rattle.fields.proofs.CheckLaws.{then_passed}
 use Rattle.lasfile.specs.Records.{payload_length}
 use Rattle.lasfile.proofs.vlr.FieldLaws.{record_at-payload, length_at}
 use Rattle.geokeys.specs.GeoKeys.{projection_place, payload_at, key_count, directory_checks, entries, answer_if, from_entry, payload_in, directory_of, directory_verdict, entries_in, searched, search_verdict, Refused}
 use Rattle.geokeys.specs.Halving.{halve, key_read, read_if, lookup_by_halving, KeyRead}
+use Rattle.geokeys.proofs.SearchLaws.{room_for_keys}
 use Rattle.geokeys.proofs.HalvingLaws.{few_reads}
 
 -- ---- an answer after a verdict
@@ -39,8 +40,7 @@ short_payload s at bytes =
 few_keys : (d : Bytes) → length d < 65536 → first_failing (directory_checks d) ≡ Passes → length (entries d) ≤ 8190
 unfolding entries
 few_keys d h passes =
-    let room : 8 + 8 * key_count d ≤ length d = (none_fails (directory_checks d) passes).0.1.1 in
-    omega (arith, room, length-pieces (key_count d) 8 (drop 8 d))
+    omega (arith, room_for_keys d passes, length-pieces (key_count d) 8 (drop 8 d))
 
 module _ (s : Bytes) (bytes : AllBytes s) where
   few_in : (place : Option ℕ) → directory_verdict (payload_in s place) ≡ Passes → length (entries_in (payload_in s place)) ≤ 8190

@@ -1,79 +1,74 @@
 // GeoKey lookups by halving: the search calls itself on one half of the entries that are left.
-ghost use Rattle.std.specs.Prelude.{◌≡◌, ◌+◌, ◌*◌, ◌≤◌, ◌<◌, ◌^◌};
-ghost use Rattle.fields.specs.Checks.{Passes};
-ghost use Rattle.lasfile.specs.FileChecks.{file_verdict};
-ghost use Rattle.geokeys.specs.GeoKeys.{entries};
+ghost use Rattle.std.specs.Prelude.{◌≡◌, ◌+◌, ◌*◌, ◌≤◌, ◌<◌, ◌^◌, length};
+ghost use Rattle.geokeys.specs.GeoKeys.{key_count, entries};
 ghost use Rattle.geokeys.specs.Halving.{halve, key_read, lookup_by_halving};
 ghost use Rattle.geokeys.specs.Values.{read_of};
-ghost use Rattle.geokeys.specs.Places.{entries_from, halved_in};
+ghost use Rattle.geokeys.specs.Places.{halved_in};
 
-use crate::{ENTRY, Found, KeyValue, at_entry, find_directory, payload_at};
+use crate::{ENTRY, KeyValue, at_entry, entries, find_directory, payload_at};
 use fields::numbers::number_at;
 use fields::refusal::Refusal;
 
 // What a lookup found, or why it found nothing, and how many entries of the directory it read.
-#[derive(Clone, Copy)]
+#[derive(Clone, Copy, Debug, PartialEq, Eq)]
 pub struct KeyRead {
     pub found: Result<KeyValue, Refusal>,
     pub reads: u64,
 }
 
-// The place of an entry, if one was found, and how many were read.
-#[derive(Clone, Copy)]
-struct Search {
-    found: Found,
+// An entry, if one was found, and how many were read.
+#[derive(Clone, Copy, Debug, PartialEq, Eq)]
+struct Search<'a> {
+    found: Option<&'a [u8; ENTRY]>,
     reads: u64,
 }
 
 // What a search found, with one entry read before it. No search reads as many as 32, so that the sum fits.
-fn one_more(rest: Search) -> Search
+fn one_more(rest: Search<'_>) -> Search<'_>
     requires { rest.reads < 32 }
-    ensures { result ≡ record { found = rest.found; reads = rest.reads + 1 } }
+    ensures { result ≡ record { found = rest.entry.found; reads = rest.entry.reads + 1 } }
 {
-    let found = rest.found;
     Search {
-        found,
+        found: rest.found,
         reads: rest.reads + 1,
     }
 }
 
-// Searches the `left` entries from `at` on. At least half of them fall away with each call, so that it calls itself at
-// most as often as their number has bits.
-fn halve(directory: &[u8], at: usize, left: usize, key: u16) -> Search
-    requires { at + 8 * left < 2 ^ 32 }
-    ensures { halved_in directory.now result ≡ halve (entries_from directory.now at left) key }
+// Searches entries for a key. At least half of them fall away with each call, so that it calls itself at most as often
+// as their number has bits.
+fn halve(entries: &[[u8; ENTRY]], key: u16) -> Search<'_>
+    requires { length entries.now < 2 ^ 29 }
+    ensures { halved_in result ≡ halve entries.now key }
 {
-    if left == 0 {
+    if entries.is_empty() {
         return Search {
-            found: Found::Nothing,
+            found: None,
             reads: 0,
         };
     }
-    let half = left / 2;
-    let middle = at + ENTRY * half;
-    let read = number_at(directory, middle, 2);
+    let half = entries.len() / 2;
+    let middle = &entries[half];
+    let read = number_at(middle, 0, 2);
     if read == key as u64 {
         return Search {
-            found: Found::At(middle),
+            found: Some(middle),
             reads: 1,
         };
     }
     if (key as u64) < read {
-        return one_more(halve(directory, at, half, key));
+        return one_more(halve(&entries[..half], key));
     }
-    one_more(halve(directory, middle + ENTRY, left - half - 1, key))
+    one_more(halve(&entries[half + 1..], key))
 }
 
 // Numbers 42 to 46, or the value of a key in a directory, and the entries read for it.
 fn in_directory(file: &[u8], directory: &[u8], key: u16) -> KeyRead
-    requires { file_verdict file.now ≡ Passes }
+    requires { 8 + 8 * key_count directory.now ≤ length directory.now }
     ensures { read_of result ≡ key_read file.now (halve (entries directory.now) key) }
 {
-    let search = halve(directory, ENTRY, number_at(directory, 6, 2) as usize, key);
-    let place = search.found;
-    let found = at_entry(file, directory, place);
+    let search = halve(entries(directory), key);
     KeyRead {
-        found,
+        found: at_entry(file, search.found),
         reads: search.reads,
     }
 }

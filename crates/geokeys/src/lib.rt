@@ -3,22 +3,20 @@
 
 pub mod halving;
 
-ghost use Rattle.std.specs.Prelude.{◌≡◌, ◌+◌, ◌<◌, ◌^◌};
+ghost use Rattle.std.specs.Prelude.{◌≡◌, ◌+◌, ◌*◌, ◌≤◌, ◌<◌, ◌^◌, length, IfSome};
 ghost use Rattle.std.proofs.Math.Option.{some};
 ghost use Rattle.fields.specs.Checks.{first_failing};
 ghost use Rattle.fields.specs.Refusals.{verdict_of, by_number};
-ghost use Rattle.fields.specs.Checks.{Passes};
-ghost use Rattle.lasfile.specs.FileChecks.{file_verdict};
-ghost use Rattle.geokeys.specs.GeoKeys.{Refused, is_projection, projection_place, payload_at, directory_checks, entries, entry_of, in_payload, from_entry, lookup};
+ghost use Rattle.geokeys.specs.GeoKeys.{Refused, is_projection, projection_place, payload_at, key_count, directory_checks, entries, entry_of, in_payload, from_entry, lookup};
 ghost use Rattle.geokeys.specs.Places as directory;
 ghost use Rattle.geokeys.specs.Values.{geokey_of};
-ghost use Rattle.geokeys.specs.Places.{place_in, entry_in, Low, place_if, Searches};
+ghost use Rattle.geokeys.specs.Places.{place_in, entry_in, place_if, Searches};
 
 use fields::numbers::number_at;
 use fields::refusal::Refusal;
 use fields::{slices, text};
-use lasfile::vlr::{FRONT, RECORD_ID, USER_ID};
-use lasfile::{header, vlr};
+use lasfile::vlr;
+use lasfile::vlr::{FRONT, RECORD_ID, Records, USER_ID};
 
 // A key's value: a number, a double's 64 bits, or a text's place in the file and its length.
 #[derive(Clone, Copy, Debug, PartialEq, Eq)]
@@ -45,36 +43,29 @@ const COUNT: usize = 4;
 
 const VALUE_OFFSET: usize = 6;
 
-#[derive(Clone, Copy)]
-pub(crate) enum Found {
-    At(usize),
-    Nothing,
+// A directory's head: the version 1, the revision 1.0, and at this place the number of keys.
+const OPENING: &[u8] = b"\x01\x00\x01\x00\x00\x00";
+
+const KEY_COUNT: usize = 6;
+
+// Whether a record is of "LASF_Projection" and has this record ID. `vlr` is bytes that begin with a record.
+fn is_projection(vlr: &[u8], id: u64) -> bool
+    ensures { result ≡ is_projection vlr.now id 0 }
+{
+    let named = text::same_cut(slices::part_at(vlr, USER_ID, 16), b"LASF_Projection");
+    named & (number_at(vlr, RECORD_ID, 2) == id)
 }
 
-// Whether the record at a place is of "LASF_Projection" and has this record ID.
-fn is_projection(file: &[u8], id: u64, at: usize) -> bool
-    requires { at + 54 < 2 ^ 64 }
-    ensures { result ≡ is_projection file.now id at }
+// The place of the first such record.
+fn find_projection(file: &[u8], id: u64) -> Option<usize>
+    ensures { (place_in result ≡ projection_place file.now id) × IfSome result (λ at. at < 2 ^ 50) }
 {
-    let named = text::same_cut(slices::part_at(file, at + USER_ID, 16), b"LASF_Projection");
-    named & (number_at(file, at + RECORD_ID, 2) == id)
-}
-
-// The first such record of a file that passes.
-fn find_projection(file: &[u8], id: u64) -> Found
-    requires { file_verdict file.now ≡ Passes }
-    ensures { (place_in result ≡ projection_place file.now id) × Low result }
-{
-    let mut at = header::header_size(file);
-    let mut left = header::record_count(file);
-    while 0 < left {
-        if is_projection(file, id, at) {
-            return Found::At(at);
+    for vlr in Records::new(file) {
+        if is_projection(vlr.bytes, id) {
+            return Some(vlr.place);
         }
-        at += vlr::size_at(file, at);
-        left -= 1;
     }
-    Found::Nothing
+    None
 }
 
 pub(crate) fn payload_at(file: &[u8], at: usize) -> &[u8]
@@ -88,16 +79,10 @@ pub(crate) fn payload_at(file: &[u8], at: usize) -> &[u8]
 fn check_directory(directory: &[u8]) -> Result<(), Refusal>
     ensures { verdict_of result ≡ first_failing (directory_checks directory.now) }
 {
-    if directory.len() < ENTRY {
+    if directory.len() < ENTRY + ENTRY * number_at(directory, KEY_COUNT, 2) as usize {
         return Err(Refusal::BadDirectory);
     }
-    if !slices::same_bytes(
-        slices::part_at(directory, 0, 6),
-        b"\x01\x00\x01\x00\x00\x00",
-    ) {
-        return Err(Refusal::BadDirectory);
-    }
-    if (directory.len() as u64) < 8 + 8 * number_at(directory, 6, 2) {
+    if !slices::same_bytes(slices::part_at(directory, 0, KEY_COUNT), OPENING) {
         return Err(Refusal::BadDirectory);
     }
     Ok(())
@@ -107,31 +92,39 @@ fn check_directory(directory: &[u8]) -> Result<(), Refusal>
 #[tactic(auto, unfolding(crate::specs::Places::place_if))]
 fn checked_at(file: &[u8], at: usize) -> Result<usize, Refusal>
     requires { at + 54 < 2 ^ 64 }
-    ensures { by_number directory.Place directory.Refused result ≡ place_if (first_failing (directory_checks (payload_at file.now at))) at }
+    ensures { by_number directory.Place directory.Refused result
+        ≡ place_if (first_failing (directory_checks (payload_at file.now at))) at }
 {
     check_directory(payload_at(file, at))?;
     Ok(at)
 }
 
-// The first entry of a key.
-fn find_entry(directory: &[u8], key: u16) -> Found
-    ensures { entry_in directory.now result ≡ entry_of (entries directory.now) key }
+// The entries of a directory that has room for as many as it states.
+pub(crate) fn entries(directory: &[u8]) -> &[[u8; ENTRY]]
+    requires { 8 + 8 * key_count directory.now ≤ length directory.now }
+    ensures { (result.now ≡ entries directory.now) × (length result.now < 2 ^ 16) }
 {
-    let mut at = ENTRY;
-    let mut left = number_at(directory, 6, 2);
-    while 0 < left {
-        if number_at(directory, at, 2) == key as u64 {
-            return Found::At(at);
+    let count = number_at(directory, KEY_COUNT, 2) as usize;
+    let (_, behind) = directory.split_at(ENTRY);
+    let (entries, _) = behind.as_chunks::<ENTRY>();
+    &entries[..count]
+}
+
+// The first entry of a key.
+fn find_entry(entries: &[[u8; ENTRY]], key: u16) -> Option<&[u8; ENTRY]>
+    ensures { entry_in result ≡ entry_of entries.now key }
+{
+    for entry in entries {
+        if number_at(entry, 0, 2) == key as u64 {
+            return Some(entry);
         }
-        at += ENTRY;
-        left -= 1;
     }
-    Found::Nothing
+    None
 }
 
 // The value of an entry in the payload of a parameter record, whose place is `at`: number 46, or a double, or a text.
 fn in_payload(entry: &[u8], at: usize, parameters: &[u8]) -> Result<KeyValue, Refusal>
-    requires { at < 2 ^ 32 }
+    requires { at < 2 ^ 50 }
     ensures { by_number geokey_of Refused result ≡ in_payload entry.now at parameters.now }
 {
     let count = number_at(entry, COUNT, 2) as usize;
@@ -150,7 +143,6 @@ fn in_payload(entry: &[u8], at: usize, parameters: &[u8]) -> Result<KeyValue, Re
 
 // Numbers 43 to 46, or the value of an entry.
 fn from_entry(file: &[u8], entry: &[u8]) -> Result<KeyValue, Refusal>
-    requires { file_verdict file.now ≡ Passes }
     ensures { by_number geokey_of Refused result ≡ from_entry file.now (some entry.now) }
 {
     let location = number_at(entry, LOCATION, 2);
@@ -166,28 +158,27 @@ fn from_entry(file: &[u8], entry: &[u8]) -> Result<KeyValue, Refusal>
     }
     let found = find_projection(file, location);
     match found {
-        Found::At(at) => in_payload(entry, at, payload_at(file, at)),
-        Found::Nothing => Err(Refusal::NoParameters),
+        Some(at) => in_payload(entry, at, payload_at(file, at)),
+        None => Err(Refusal::NoParameters),
     }
 }
 
-// Numbers 42 to 46, or the value of the entry that a search in a directory found.
-pub(crate) fn at_entry(file: &[u8], directory: &[u8], found: Found) -> Result<KeyValue, Refusal>
-    requires { file_verdict file.now ≡ Passes }
-    ensures { by_number geokey_of Refused result ≡ from_entry file.now (entry_in directory.now found) }
+// Numbers 42 to 46, or the value of the entry that a search found.
+pub(crate) fn at_entry(file: &[u8], found: Option<&[u8; ENTRY]>) -> Result<KeyValue, Refusal>
+    ensures { by_number geokey_of Refused result ≡ from_entry file.now (entry_in found.entry) }
 {
     match found {
-        Found::At(at) => from_entry(file, slices::part_at(directory, at, ENTRY)),
-        Found::Nothing => Err(Refusal::NoKey),
+        Some(entry) => from_entry(file, entry),
+        None => Err(Refusal::NoKey),
     }
 }
 
 // Numbers 42 to 46, or the value of a key in a directory.
 fn in_directory(file: &[u8], directory: &[u8], key: u16) -> Result<KeyValue, Refusal>
-    requires { file_verdict file.now ≡ Passes }
+    requires { 8 + 8 * key_count directory.now ≤ length directory.now }
     ensures { by_number geokey_of Refused result ≡ from_entry file.now (entry_of (entries directory.now) key) }
 {
-    at_entry(file, directory, find_entry(directory, key))
+    at_entry(file, find_entry(entries(directory), key))
 }
 
 // Checks the file, then 40 and 41.
@@ -197,8 +188,8 @@ pub(crate) fn find_directory(file: &[u8]) -> Result<usize, Refusal>
     lasfile::check_file(file)?;
     let found = find_projection(file, DIRECTORY);
     match found {
-        Found::At(at) => checked_at(file, at),
-        Found::Nothing => Err(Refusal::NoDirectory),
+        Some(at) => checked_at(file, at),
+        None => Err(Refusal::NoDirectory),
     }
 }
 

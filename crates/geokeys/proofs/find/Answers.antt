@@ -8,7 +8,7 @@ use native.Mathlib.Omega.{arith}
 use Rattle.fields.specs.Bytes.{Bytes}
 use Rattle.fields.specs.Checks.{Passes}
 use Rattle.geokeys.specs.GeoKeys.{payload_at, entries, entry_of, from_entry, directory_of, searched, search_verdict, lookup, GeoKey}
-use Rattle.geokeys.proofs.SearchLaws.{answer_passes, answer_fails, passes_first, searched_is}
+use Rattle.geokeys.proofs.SearchLaws.{answer_passes, answer_fails, room_for_entries, searched_is}
 use Rattle.geokeys.proofs.find.Goals as goal
 
 -- the answer where a directory is searched
@@ -21,7 +21,9 @@ pub payload_at-requires : goal.payload_at-requires
 payload_at-requires c = omega (arith, c.in_ok-at.ensures.2)
 
 pub in_directory-requires : goal.in_directory-requires
-in_directory-requires c = passes_first _ c.in_ok-at.ensures.0
+in_directory-requires c =
+    let known = c.in_ok-at.ensures in
+    room_for_entries _ _ known.0 (known.1 ∙ ap some (sym c.payload_at.ensures))
 
 pub returns : goal.returns
 returns c =

@@ -15,17 +15,14 @@ pub returns-in_err-check_file : goal.returns-in_err-check_file
 returns-in_err-check_file c =
     let refused = file_refused c.args.file.now _ (sym c.in_err-check_file.ensures) in search (rules, refused)
 
-pub find_projection-found-requires : goal.find_projection-found-requires
-find_projection-found-requires c = passed c
-
 pub checked_at-requires : goal.checked_at-requires
-checked_at-requires c = omega (arith, low_place _ _ c.in-At.is c.find_projection-found.ensures.1)
+checked_at-requires c = omega (arith, low_place _ _ c.in-Some.is c.find_projection-found.ensures.1)
 
-pub returns-in-At : goal.returns-in-At
-returns-in-At c =
+pub returns-in-Some : goal.returns-in-Some
+returns-in-Some c =
     let searched = c.find_projection-found.ensures in
-    let found = c.in-At.is in
-    directory_at _ (passed (goal.at.returns-in-At c).In_ok-check_file) _ _ (low_place _ _ found searched.1) (placed _ _ _ searched.0 found) c.checked_at.ensures
+    let found = c.in-Some.is in
+    directory_at _ (passed (goal.at.returns-in-Some c).In_ok-check_file) _ _ (low_place _ _ found searched.1) (placed _ _ _ searched.0 found) c.checked_at.ensures
 
-pub returns-in-Nothing : goal.returns-in-Nothing
-returns-in-Nothing c = no_directory _ (passed (goal.at.returns-in-Nothing c).In_ok-check_file) (nowhere _ _ c.find_projection-found.ensures.0 c.in-Nothing.is)
+pub returns-in-None : goal.returns-in-None
+returns-in-None c = no_directory _ (passed (goal.at.returns-in-None c).In_ok-check_file) (nowhere _ _ c.find_projection-found.ensures.0 c.in-None.is)

@@ -11,8 +11,7 @@ use Rattle.fields.specs.Checks.{first_failing, Passes}
 use Rattle.fields.proofs.CheckLaws.{first_fails, first_clear, all_clear}
 use Rattle.geokeys.specs.GeoKeys.{projection_place, payload_at, location_of, count_of, offset_of, entry_checks, either, double_in, text_in, in_parameters, from_entry, GeoKey, Value, Refused}
 use Rattle.geokeys.proofs.SearchLaws.{answer_passes, answer_fails, either_first, either_second, placed, nowhere, low_place}
-use borrow.Author.Rules.{rules}
-use Rattle.geokeys.proofs.from_entry.Goals.{After-number_at-count, Else-location-eq0, Else-not-location, Else-not-location-count}
+use Rattle.geokeys.proofs.from_entry.Goals.{After-number_at-count, Else-not-location, Else-not-location-count}
 use Rattle.geokeys.proofs.from_entry.Goals as goal
 
 -- whether a location is one of the three, and whether a count is right for it
@@ -99,25 +98,21 @@ returns-then-location-eq0 c =
     ∙ sym (value _ _ (is_known (goal.at.returns-then-location-eq0 c).Else-not-location) (is_counted (goal.at.returns-then-location-eq0 c).Else-not-location-count) (sym (location_is (goal.at.returns-then-location-eq0 c).After-number_at-count) ∙ c.if-location-eq0.true))
 
 pub payload_at-requires : goal.payload_at-requires
-payload_at-requires c = omega (arith, low_place _ _ c.in-At.is c.find_projection-found.ensures.1)
+payload_at-requires c = omega (arith, low_place _ _ c.in-Some.is c.find_projection-found.ensures.1)
 
 pub in_payload-requires : goal.in_payload-requires
-in_payload-requires c = low_place _ _ c.in-At.is c.find_projection-found.ensures.1
-
-pub find_projection-found-requires : goal.find_projection-found-requires
-find_projection-found-requires c = search rules
+in_payload-requires c = low_place _ _ c.in-Some.is c.find_projection-found.ensures.1
 
 -- where the location is another than 0
-searched : (c : Else-location-eq0)
-    → from_entry c.args.file.now (some c.args.entry.now)
-    ≡ in_parameters c.args.file.now c.args.entry.now (projection_place c.args.file.now c.number_at-location.result)
-searched c = elsewhere _ _ (is_known (goal.at.find_projection-found-requires c).Else-not-location) (is_counted (goal.at.find_projection-found-requires c).Else-not-location-count) _ (location_is (goal.at.find_projection-found-requires c).After-number_at-count) c.if-location-eq0.false
+pub returns-in-Some : goal.returns-in-Some
+returns-in-Some c =
+    let at = goal.at.returns-in-Some c in
+    let searched = elsewhere _ _ (is_known at.Else-not-location) (is_counted at.Else-not-location-count) _ (location_is at.After-number_at-count) c.if-location-eq0.false in
+    let found = placed _ _ _ c.find_projection-found.ensures.0 c.in-Some.is in
+    in_record _ _ _ _ searched _ _ _ found c.payload_at.ensures c.in_payload.ensures
 
-pub returns-in-At : goal.returns-in-At
-returns-in-At c =
-    let found = placed _ _ _ c.find_projection-found.ensures.0 c.in-At.is in
-    in_record _ _ _ _ (searched (goal.at.returns-in-At c).Else-location-eq0) _ _ _ found c.payload_at.ensures c.in_payload.ensures
-
-pub returns-in-Nothing : goal.returns-in-Nothing
-returns-in-Nothing c =
-    sym (no_record _ _ _ _ (searched (goal.at.returns-in-Nothing c).Else-location-eq0) (nowhere _ _ c.find_projection-found.ensures.0 c.in-Nothing.is))
+pub returns-in-None : goal.returns-in-None
+returns-in-None c =
+    let at = goal.at.returns-in-None c in
+    let searched = elsewhere _ _ (is_known at.Else-not-location) (is_counted at.Else-not-location-count) _ (location_is at.After-number_at-count) c.if-location-eq0.false in
+    sym (no_record _ _ _ _ searched (nowhere _ _ c.find_projection-found.ensures.0 c.in-None.is))

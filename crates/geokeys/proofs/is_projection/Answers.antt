@@ -12,9 +12,9 @@ pub returns : goal.returns
 unfolding is_projection
 returns c =
     let a = c.args in
-    let s = a.file.now in
-    let user : cut c.part_at.result.now ≡ (record_at 2 s a.at).user =
-    ap cut c.part_at.ensures ∙ sym (user_at 2 s a.at) in
-    let named : c.same_cut-named.result ≡ same (record_at 2 s a.at).user projection = c.same_cut-named.ensures ∙ rw (user, cut_whole projection tt) in
-    let id : c.number_at.result ≡ (record_at 2 s a.at).id = c.number_at.ensures.0 ∙ sym (id_at 2 s a.at) in
+    let s = a.vlr.now in
+    let user : cut c.part_at.result.now ≡ (record_at 2 s 0).user =
+    ap cut c.part_at.ensures ∙ sym (user_at 2 s 0) in
+    let named : c.same_cut-named.result ≡ same (record_at 2 s 0).user projection = c.same_cut-named.ensures ∙ rw (user, cut_whole projection tt) in
+    let id : c.number_at.result ≡ (record_at 2 s 0).id = c.number_at.ensures.0 ∙ sym (id_at 2 s 0) in
     rw (named, id)

@@ -1,6 +1,6 @@
 -- The counted records of a file, one at a time, and where they end.
 -- Assumes nothing.
-use Rattle.std.proofs.Common.{◌≡◌, ℕ, zero, suc, ◌+◌, ◌<◌, Bool, true, false, ◌&&◌, leb, List, [], ◌∷◌, length, drop, refl, sym, ◌∙◌, add-one, arith}
+use Rattle.std.proofs.Common.{◌≡◌, ℕ, zero, suc, ◌+◌, ◌*◌, ◌^◌, ◌<◌, Bool, true, false, ◌&&◌, leb, List, [], ◌∷◌, length, drop, refl, sym, ◌∙◌, add-one, arith, rules}
 use Rattle.std.proofs.lemmas.Grind.{common_steps}
 use Rattle.std.proofs.lemmas.List.{drop-drop}
 use Rattle.std.specs.List.{list_all}
@@ -19,6 +19,12 @@ pub placed_step : (n m at size : ℕ) (s rest : Bytes) → n ≡ m + 1 → size 
     → placed n at s ≡ (at, s) ∷ placed m (at + size) rest
 unfolding placed
 placed_step n m at size s rest h e r = rw (h, add-one, r, from_place, e) refl
+
+-- its place is low, since few are left
+pub place_low : (n at place : ℕ) (s b : Bytes) (rest : List (ℕ × Bytes)) → placed n at s ≡ (place, b) ∷ rest → at + n * 2 ^ 17 < 2 ^ 50 → place < 2 ^ 50
+unfolding placed
+place_low zero at place s b rest e h = absurd (search (rules, e))
+place_low (suc n) at place s b rest e h = let same : at ≡ place = search (rules, e) in omega (arith, same)
 
 pub ruleset walks = (placed_none, from_place)
 

@@ -1,7 +1,13 @@
 -- `halving::halve`, which calls itself, meets its contract. Assumes nothing.
 use mathlib.Core.Path.{◌≡◌, refl, sym, ap, ◌∙◌}
-use Prim.Native.Nat.{ℕ, ◌+◌, ◌*◌, ◌-◌, ◌/◌, ◌≤◌, ◌<◌}
-use native.Mathlib.Nat.{pos_of_ne-zero}
+use Prim.Native.Nat.{ℕ, ◌+◌, ◌-◌, ◌/◌, ◌≤◌, ◌<◌}
+use mathlib.Core.Bool.{Bool, false}
+use mathlib.Core.List.{List}
+use lib.ListN.{length, take, drop, length-take, length-drop}
+use borrow.Author.Rules.{rules}
+use Rattle.std.specs.Prelude.{◌==◌}
+use Rattle.std.proofs.lemmas.Grind.{common_steps}
+use Rattle.fields.specs.Bytes.{Bytes}
 use native.Mathlib.Omega.{arith}
 use Rattle.geokeys.specs.Places.{halved_in}
 use Rattle.geokeys.proofs.halving.HalfLaws.{none_there, equal_there, larger_there, smaller_there, reads_fit}
@@ -14,45 +20,33 @@ higher r n key e h = rw (← e) h
 lower : (r n key : ℕ) → r ≡ n → (r ≡ key → ⊥) → r ≤ key → n < key
 lower r n key e other h = rw (← e) (omega (arith, other))
 
-pub returns-then-left-eq0 : goal.returns-then-left-eq0
-returns-then-left-eq0 t c =
-    let a = c.args in
-    none_there _ a.at _ a.key c.if-left-eq0.true
+some_left : (es : List Bytes) (r : Bool) → r ≡ (length es == 0) → r ≡ false → 0 < length es
+some_left es r e h = grind (arith, common_steps)
+
+pub returns-then-is_empty : goal.returns-then-is_empty
+returns-then-is_empty t c = none_there _ _ (search rules)
 
 pub returns-then-read-key : goal.returns-then-read-key
 returns-then-read-key t c =
-    let a = c.args in
-    equal_there _ a.at a.left a.key _ _ refl refl (pos_of_ne-zero c.if-left-eq0.false) (sym c.number_at-read.ensures.0 ∙ c.if-read-key.true)
-
-pub halve-requires : goal.halve-requires
-halve-requires t c =
-    let some_left = pos_of_ne-zero c.if-left-eq0.false in
-    (omega (arith, some_left, c.decreases), omega (arith, c.requires))
+    equal_there _ _ _ _ refl refl (some_left _ _ c.is_empty.ensures c.if-is_empty.false) _ refl (sym c.number_at-read.ensures.0 ∙ c.if-read-key.true)
 
 pub one_more-requires : goal.one_more-requires
 one_more-requires t c =
-    let a = c.args in
-    reads_fit _ a.at (a.left / 2) a.key _ (omega (arith, c.requires)) c.halve.ensures
+    let es = c.args.entries.now in
+    reads_fit (take (length es / 2) es) _ _ (simp length-take (omega arith)) c.halve.ensures
 
 pub returns-then-key-read : goal.returns-then-key-read
 returns-then-key-read t c =
-    let a = c.args in
-    ap (halved_in a.directory.now) c.one_more.ensures
-    ∙ larger_there _ a.at a.left a.key _ _ refl refl (pos_of_ne-zero c.if-left-eq0.false) _ (higher _ _ _ c.number_at-read.ensures.0 c.if-key-read.true) c.halve.ensures
-
-pub halve-requires-2 : goal.halve-requires-2
-halve-requires-2 t c =
-    let some_left = pos_of_ne-zero c.if-left-eq0.false in
-    (omega (arith, some_left, c.decreases), omega (arith, some_left, c.requires))
+    ap halved_in c.one_more.ensures
+    ∙ larger_there _ _ _ _ refl refl (some_left _ _ c.is_empty.ensures c.if-is_empty.false) _ _ refl (higher _ _ _ c.number_at-read.ensures.0 c.if-key-read.true) c.halve.ensures
 
 pub one_more-requires-2 : goal.one_more-requires-2
 one_more-requires-2 t c =
-    let a = c.args in
-    reads_fit _ (a.at + 8 * (a.left / 2) + 8) (a.left - a.left / 2 - 1) a.key _ (omega (arith, c.requires)) c.halve-2.ensures
+    let es = c.args.entries.now in
+    let at = length es / 2 + 1 in
+    reads_fit (take (length es - at) (drop at es)) _ _ (simp (length-take, length-drop) (omega arith)) c.halve-2.ensures
 
 pub returns : goal.returns
 returns t c =
-    let a = c.args in
-    let read = c.number_at-read.ensures.0 in
-    ap (halved_in a.directory.now) c.one_more-2.ensures
-    ∙ smaller_there _ a.at a.left a.key _ _ refl refl (pos_of_ne-zero c.if-left-eq0.false) _ (lower _ _ _ read c.if-read-key.false c.if-key-read.false) c.halve-2.ensures
+    ap halved_in c.one_more-2.ensures
+    ∙ smaller_there _ _ _ _ refl refl (some_left _ _ c.is_empty.ensures c.if-is_empty.false) _ _ refl (lower _ _ _ c.number_at-read.ensures.0 c.if-read-key.false c.if-key-read.false) c.halve-2.ensures

@@ -8,7 +8,7 @@ use Rattle.fields.specs.Bytes.{Bytes, AllBytes}
 use Rattle.fields.specs.Checks.{Passes}
 use Rattle.geokeys.specs.GeoKeys.{payload_at, entries, directory_of, search_verdict}
 use Rattle.geokeys.specs.Halving.{halve, key_read, lookup_by_halving, KeyRead}
-use Rattle.geokeys.proofs.SearchLaws.{passes_first, searched_is}
+use Rattle.geokeys.proofs.SearchLaws.{room_for_entries, searched_is}
 use Rattle.geokeys.proofs.KeyReadLaws.{read_passes, read_fails, at_most_13}
 use Rattle.geokeys.proofs.halving.find_by_halving.Goals as goal
 
@@ -26,7 +26,9 @@ pub payload_at-requires : goal.payload_at-requires
 payload_at-requires c = omega (arith, c.in-Ok.ensures.2)
 
 pub in_directory-requires : goal.in_directory-requires
-in_directory-requires c = passes_first _ c.in-Ok.ensures.0
+in_directory-requires c =
+    let known = c.in-Ok.ensures in
+    room_for_entries _ _ known.0 (known.1 ∙ ap some (sym c.payload_at.ensures))
 
 pub returns-in-Ok : goal.returns-in-Ok
 returns-in-Ok c =
