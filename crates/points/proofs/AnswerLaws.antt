@@ -6,6 +6,7 @@ use native.Mathlib.Omega.{arith}
 use mathlib.Core.Bool.{Bool, true, false, ◌&&◌, ◌||◌, not, true≢false}
 use mathlib.Core.List.{[]}
 use lib.ListN.{length}
+use lib.IntN.{ℤ}
 use lib.Dec.{T, eqb, eqb→eq, leb, ltb}
 use borrow.Author.Tests.{eq-eqb, le-leb, leb-true, leb-false, lt-ltb, le-ltb}
 use Rattle.std.specs.Prelude.{Some}
@@ -78,21 +79,22 @@ module _ (f n : ℕ) (h : (f ≤ 3) × (format_size f ≤ n)) (l : Layout) (is :
 
 -- ---- decoding
 
--- the fields that all formats share, with those that only some have
-pub with_others : (f : ℕ) (p : Bytes) (q : Point) (time red green blue : ℕ) → q ≡ blank 0 (point_of f p)
+-- the fields that all formats share, with those that only some have; X, Y, Z and the scan angle as they are passed on
+pub with_others : (f : ℕ) (p : Bytes) (q : Point) (x y z angle : ℤ) (time red green blue : ℕ) → q ≡ blank 0 (point_of f p)
+    → x ≡ q.x → y ≡ q.y → z ≡ q.z → angle ≡ q.scan_angle
     → time ≡ number_in 8 (time_place f) 0 p → red ≡ number_in 2 (colour_place f) 0 p → green ≡ number_in 2 (colour_place f) 2 p → blue ≡ number_in 2 (colour_place f) 4 p
     → ◌≡◌ {A = Point}
     (record {
-      x = q.x;
-      y = q.y;
-      z = q.z;
+      x = x;
+      y = y;
+      z = z;
       intensity = q.intensity;
       return_number = q.return_number;
       returns = q.returns;
       scan_direction = q.scan_direction;
       edge = q.edge;
       classification = q.classification;
-      scan_angle = q.scan_angle;
+      scan_angle = angle;
       user_data = q.user_data;
       source_id = q.source_id;
       gps_time = time;
@@ -105,7 +107,7 @@ pub with_others : (f : ℕ) (p : Bytes) (q : Point) (time red green blue : ℕ) 
     })
     (point_of f p)
 unfolding point_of blank
-with_others f p q time red green blue e t r g b = rw (e, t, r, g, b)
+with_others f p q x y z angle time red green blue e a b c d t r g k = rw (a, b, c, d, e, t, r, g, k)
 
 pub refused : (f len : ℕ) (p : Bytes) (r : Bool) → r ≡ not (fails (shape f len (length p))) → not r ≡ true → decoded f len p ≡ Refused 12
 unfolding decoded decode_checks fields_if

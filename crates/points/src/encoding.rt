@@ -1,5 +1,5 @@
 // A point's fields into the bytes of a record.
-ghost use Rattle.std.specs.Prelude.{◌≡◌, ◌≤◌, length};
+ghost use Rattle.std.specs.Prelude.{◌≡◌, ℕ, ◌+◌, ◌≤◌, length, Some};
 ghost use Rattle.fields.specs.Bytes.{bytes_of, join};
 ghost use Rattle.fields.specs.Checks.{fails};
 ghost use Rattle.fields.specs.Refusals.{verdict_of};
@@ -10,18 +10,22 @@ use crate::{Point, common, layouts};
 use fields::refusal::Refusal;
 
 // Red, green and blue as one number of 6 bytes.
+#[tactic(auto, using(crate::proofs::common::PackedLaws::bytes_three), unfolding(crate::specs::Encoding::colours))]
 fn colour_of(point: Point) -> u64
     ensures { bytes_of 6 result ≡ join (colours point) }
 {
-    point.red as u64 + 65536 * (point.green as u64) + 4294967296 * (point.blue as u64)
+    u64::from(point.red) + 65536 * u64::from(point.green) + 4294967296 * u64::from(point.blue)
 }
 
-// Writes a number at a place, if the format has it.
+// Writes a number at a place, if the format has it. That there is room is asked once more, as in `time_in`.
 #[tactic(auto, unfolding(crate::specs::Encoding::stored_at))]
 fn put_at(room: &mut [u8], place: Option<usize>, width: usize, n: u64)
+    requires { (at : ℕ) → place ≡ Some at → at + width ≤ length room.old }
     ensures { room.new ≡ stored_at place (bytes_of width n) room.old }
 {
-    if let Some(at) = place {
+    if let Some(at) = place
+        && fields::numbers::fits_in(room.len(), at, width)
+    {
         fields::numbers::put_number(room, at, width, n);
     }
 }
@@ -32,13 +36,12 @@ fn put_others(room: &mut [u8], format: u8, point: Point)
     ensures { room.new ≡ with_others format point room.old }
 {
     let layout = layouts::layout_of(format);
-    let time = layout.time;
-    let colour = layout.colour;
-    put_at(room, time, 8, point.gps_time);
-    put_at(room, colour, 6, colour_of(point));
+    put_at(room, layout.time, 8, point.gps_time);
+    put_at(room, layout.colour, 6, colour_of(point));
 }
 
 // Whether a field is too large to encode.
+#[tactic(auto, unfolding(crate::specs::Encoding::large, fields::specs::Checks::fails))]
 fn is_large(format: u8, point: Point) -> bool
     ensures { result ≡ fails (large format point) }
 {

@@ -18,7 +18,7 @@ use fields::refusal::Refusal;
 use fields::signed;
 
 // A point's fields. GPS time is its 64 bits, and the last three are flags of the classification byte.
-#[derive(Clone, Copy)]
+#[derive(Clone, Copy, Debug, PartialEq, Eq, Default)]
 pub struct Point {
     pub x: i32,
     pub y: i32,
@@ -49,23 +49,20 @@ fn u16_at(s: &[u8], at: usize) -> u16
 
 // GPS time; 0 where the format lacks it. That the record holds it is asked once more here: it shows the compiler that
 // no byte is missing.
+#[tactic(auto, unfolding(crate::specs::Points::number_in))]
 fn time_in(s: &[u8], place: Option<usize>) -> u64
     requires { (at : ℕ) → place ≡ Some at → at + 8 ≤ length s.now }
     ensures { result ≡ number_in 8 place 0 s.now }
 {
     match place {
-        None => 0,
-        Some(at) => {
-            if fields::numbers::fits_in(s.len(), at, 8) {
-                fields::numbers::number_at(s, at, 8)
-            } else {
-                0
-            }
+        Some(at) if fields::numbers::fits_in(s.len(), at, 8) => {
+            fields::numbers::number_at(s, at, 8)
         }
+        _ => 0,
     }
 }
 
-#[derive(Clone, Copy)]
+#[derive(Clone, Copy, Debug, PartialEq, Eq, Default)]
 struct Colour {
     red: u16,
     green: u16,
@@ -73,7 +70,8 @@ struct Colour {
 }
 
 // Red, green and blue; 0 where the format lacks them. The record is asked as for GPS time, once for all three: a test
-// for each makes `decode` too long to be inlined.
+// for each makes `decode` longer.
+#[tactic(auto, unfolding(crate::specs::Points::number_in))]
 fn colour_in(s: &[u8], place: Option<usize>) -> Colour
     requires { (at : ℕ) → place ≡ Some at → at + 6 ≤ length s.now }
     ensures { (result.red ≡ number_in 2 place 0 s.now)
@@ -81,30 +79,17 @@ fn colour_in(s: &[u8], place: Option<usize>) -> Colour
         × (result.blue ≡ number_in 2 place 4 s.now) }
 {
     match place {
-        None => Colour {
-            red: 0,
-            green: 0,
-            blue: 0,
+        Some(at) if fields::numbers::fits_in(s.len(), at, 6) => Colour {
+            red: u16_at(s, at),
+            green: u16_at(s, at + 2),
+            blue: u16_at(s, at + 4),
         },
-        Some(at) => {
-            if fields::numbers::fits_in(s.len(), at, 6) {
-                Colour {
-                    red: u16_at(s, at),
-                    green: u16_at(s, at + 2),
-                    blue: u16_at(s, at + 4),
-                }
-            } else {
-                Colour {
-                    red: 0,
-                    green: 0,
-                    blue: 0,
-                }
-            }
-        }
+        _ => Colour::default(),
     }
 }
 
 // The fields of a record that all formats share; the others, which format 0 lacks, are 0.
+#[inline(always)]
 fn shared_of(format: u8, s: &[u8]) -> Point
     ensures { result ≡ blank 0 (point_of format s.now) }
 {
@@ -124,28 +109,27 @@ fn shared_of(format: u8, s: &[u8]) -> Point
         scan_angle: signed::i8_at(s, 16),
         user_data: fields::numbers::u8_at(s, 17),
         source_id: u16_at(s, 18),
-        gps_time: 0,
-        red: 0,
-        green: 0,
-        blue: 0,
         synthetic: raw::synthetic_in(format, class_byte),
         key_point: raw::key_point_in(format, class_byte),
         withheld: raw::withheld_in(format, class_byte),
+        ..Point::default()
     }
 }
 
 // Whether n bytes are the record length, and that length and the format can be. The last part follows from the others:
 // it shows the compiler that the fields that all formats share are there.
+#[tactic(auto, using(crate::proofs::AnswerLaws::shape_test), unfolding(crate::specs::Formats::layout_of))]
 pub(crate) fn has_shape(format: u8, record_length: u16, n: usize) -> bool
     ensures { result ≡ not (fails (shape format record_length n)) }
 {
-    let layout = layouts::layout_of(format);
-    let size = layout.size;
-    let len = record_length as usize;
+    let size = layouts::layout_of(format).size;
+    let len = usize::from(record_length);
     (n == len) & (size <= len) & (format <= layouts::HIGHEST) & (raw::SHORTEST <= n)
 }
 
-// The fields of a point record, or 12.
+// The fields of a point record, or 12. It is inlined with `shared_of`, so that the fields go to where its caller has
+// them and not through memory first.
+#[inline(always)]
 pub fn decode(format: u8, record_length: u16, bytes: &[u8]) -> Result<Point, Refusal>
     ensures { by_number Fields Refused result ≡ decoded format record_length bytes.now }
 {
@@ -153,13 +137,13 @@ pub fn decode(format: u8, record_length: u16, bytes: &[u8]) -> Result<Point, Ref
         return Err(Refusal::BadShape);
     }
     let layout = layouts::layout_of(format);
-    let time = layout.time;
-    let colour = layout.colour;
-    let mut point = shared_of(format, bytes);
-    point.gps_time = time_in(bytes, time);
-    let rgb = colour_in(bytes, colour);
-    point.red = rgb.red;
-    point.green = rgb.green;
-    point.blue = rgb.blue;
+    let colour = colour_in(bytes, layout.colour);
+    let point = Point {
+        gps_time: time_in(bytes, layout.time),
+        red: colour.red,
+        green: colour.green,
+        blue: colour.blue,
+        ..shared_of(format, bytes)
+    };
     Ok(point)
 }

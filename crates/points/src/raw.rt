@@ -18,7 +18,7 @@ pub const SHORTEST: usize = 20;
 const TOO_MANY: usize = 4294967296;
 
 // The stored X, Y and Z of a point.
-#[derive(Clone, Copy)]
+#[derive(Clone, Copy, Debug, PartialEq, Eq)]
 pub struct Stored {
     pub x: i32,
     pub y: i32,
@@ -26,36 +26,42 @@ pub struct Stored {
 }
 
 // What a classification byte says: the class, and three flags.
+#[tactic(auto, unfolding(crate::specs::Raw::class_in, crate::specs::Raw::bits))]
 pub fn class_in(format: u8, byte: u8) -> u8
     ensures { result ≡ class_in format byte }
 {
     byte % 32
 }
 
+#[tactic(auto, unfolding(crate::specs::Raw::synthetic_in, crate::specs::Raw::bit, crate::specs::Raw::bits))]
 pub fn synthetic_in(format: u8, byte: u8) -> bool
     ensures { result ≡ synthetic_in format byte }
 {
     byte / 32 % 2 == 1
 }
 
+#[tactic(auto, unfolding(crate::specs::Raw::key_point_in, crate::specs::Raw::bit, crate::specs::Raw::bits))]
 pub fn key_point_in(format: u8, byte: u8) -> bool
     ensures { result ≡ key_point_in format byte }
 {
     byte / 64 % 2 == 1
 }
 
+#[tactic(auto, unfolding(crate::specs::Raw::withheld_in, crate::specs::Raw::bit, crate::specs::Raw::bits))]
 pub fn withheld_in(format: u8, byte: u8) -> bool
     ensures { result ≡ withheld_in format byte }
 {
     byte / 128 % 2 == 1
 }
 
+#[tactic(auto, unfolding(crate::specs::Raw::class_byte))]
 pub fn class_byte(format: u8, point: &[u8]) -> u8
     ensures { result ≡ class_byte format point.now }
 {
     u8_at(point, CLASSIFICATION)
 }
 
+#[tactic(auto, unfolding(crate::specs::Raw::return_of, crate::specs::Raw::bits))]
 pub fn return_of(format: u8, point: &[u8]) -> u8
     ensures { result ≡ return_of format point.now }
 {
@@ -63,6 +69,7 @@ pub fn return_of(format: u8, point: &[u8]) -> u8
 }
 
 // The same in every format.
+#[tactic(auto, unfolding(crate::specs::Raw::stored_of, crate::specs::Raw::stored))]
 pub fn stored_of(point: &[u8]) -> Stored
     ensures { result ≡ stored_of point.now }
 {
@@ -75,6 +82,7 @@ pub fn stored_of(point: &[u8]) -> Stored
 
 // Whether `count` records of `record_length` bytes lie in `size` bytes. A point record has 20 bytes or more, and there
 // are fewer than 2^32 of them.
+#[tactic(auto, unfolding(crate::specs::Raw::in_run))]
 pub fn holds(size: usize, record_length: usize, count: usize) -> bool
     ensures { result ≡ in_run count record_length size }
 {

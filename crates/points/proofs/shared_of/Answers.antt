@@ -1,5 +1,6 @@
 -- `points::shared_of` meets its contract, field by field. Assumes nothing.
 use mathlib.Core.Path.{◌≡◌, ap, ◌∙◌}
+use native.Mathlib.Omega.{arith}
 use lib.ListN.{get_or}
 use lib.IntN.{ℤ}
 use mir.Syntax.{w8, w32}
@@ -33,6 +34,10 @@ returns c =
     -- a stored value comes back from its bits
     let back : (axis : Stored → ℤ) → SFits w32 (axis c.stored_of-stored.result) → to_z w32 (of_z w32 (axis c.stored_of-stored.result)) ≡ axis (stored_of s) =
     λ axis fits. to_z-of_z w32 (axis c.stored_of-stored.result) fits ∙ ap axis stored in
+    let no_gps_time : c.default.result.gps_time ≡ 0 = omega arith in
+    let no_red : c.default.result.red ≡ 0 = omega arith in
+    let no_green : c.default.result.green ≡ 0 = omega arith in
+    let no_blue : c.default.result.blue ≡ 0 = omega arith in
     λ i.
     record {
       x = back (λ q. q.x) (record { sfits = told.0.1 }) i;
@@ -47,10 +52,10 @@ returns c =
       scan_angle = angle i;
       user_data = user i;
       source_id = source i;
-      gps_time = value_none (time_place 0) whole.gps_time plain.0 i;
-      red = value_none (colour_place 0) whole.red plain.1 i;
-      green = value_none (colour_place 0) whole.green plain.1 i;
-      blue = value_none (colour_place 0) whole.blue plain.1 i;
+      gps_time = (no_gps_time ∙ value_none (time_place 0) whole.gps_time plain.0) i;
+      red = (no_red ∙ value_none (colour_place 0) whole.red plain.1) i;
+      green = (no_green ∙ value_none (colour_place 0) whole.green plain.1) i;
+      blue = (no_blue ∙ value_none (colour_place 0) whole.blue plain.1) i;
       synthetic = (c.synthetic_in.ensures ∙ ap (synthetic_in f) byte) i;
       key_point = (c.key_point_in.ensures ∙ ap (key_point_in f) byte) i;
       withheld = (c.withheld_in.ensures ∙ ap (withheld_in f) byte) i;

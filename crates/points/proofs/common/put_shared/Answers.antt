@@ -14,10 +14,10 @@ unfolding shared_fields
 returns c =
     let args = c.args in
     let q = args.point in
-    let x = c.signed_bits.ensures ∙ passed w32 q.x (record { sfits = c.struct_told-1.given.0.1 }) in
-    let y = c.signed_bits-2.ensures ∙ passed w32 q.y (record { sfits = c.struct_told-2-1.given.1.0.1 }) in
-    let z = c.signed_bits-3.ensures ∙ passed w32 q.z (record { sfits = c.struct_told-3-1.given.1.1.0.1 }) in
-    let intensity : c.put_number-4.new.s ≡ sets c.put_number-3.new.s 12 (bytes_of 2 q.intensity) = c.put_number-4.ensures in
+    let x = c.from.ensures ∙ c.cast_unsigned.ensures ∙ passed w32 q.x (record { sfits = c.struct_told-1.given.0.1 }) in
+    let y = c.from-2.ensures ∙ c.cast_unsigned-2.ensures ∙ passed w32 q.y (record { sfits = c.struct_told-2-1.given.1.0.1 }) in
+    let z = c.from-3.ensures ∙ c.cast_unsigned-3.ensures ∙ passed w32 q.z (record { sfits = c.struct_told-3-1.given.1.1.0.1 }) in
+    let intensity : c.put_number-4.new.s ≡ sets c.put_number-3.new.s 12 (bytes_of 2 q.intensity) = rw c.from-4.ensures at c.put_number-4.ensures in
     let last : c.put_number-7.new.s ≡ sets c.put_number-6.new.s 16 (bytes_of 4 c.last_of.result) = c.put_number-7.ensures in
     then_more _ _ _ 0 4 4 _ _ _ c.put_number.ensures (ap (bytes_of 4) x) (length-bytes_of 4 _) refl
     (then_more _ _ _ 4 4 8 _ _ _ c.put_number-2.ensures (ap (bytes_of 4) y) (length-bytes_of 4 _) refl

@@ -1,13 +1,24 @@
 -- `encoding::put_others` meets its contract. Assumes nothing.
 use mathlib.Core.Path.{ap, ◌∙◌}
+use native.Mathlib.Omega.{arith}
+use lib.ListN.{length}
 use mathlib.Core.List.{[], ◌∷◌}
 use Rattle.fields.specs.Bytes.{bytes_of}
 use Rattle.points.specs.Formats.{time_place, colour_place, layout_of}
 use Rattle.points.specs.declared.layouts.Layout.{Layout}
 use Rattle.points.specs.Encoding.{time_fields, colours, colour_fields}
+use Rattle.points.proofs.AnswerLaws.{time_there, colour_there}
 use Rattle.points.proofs.common.RoomLaws.{alone}
 use Rattle.points.proofs.encoding.RoomLaws.{placed}
 use Rattle.points.proofs.encoding.put_others.Goals as goal
+
+pub put_at-requires : goal.put_at-requires
+put_at-requires c at e =
+    omega (arith, time_there c.args.format (length c.args.room.now) c.requires c.layout_of-layout.result c.layout_of-layout.ensures at e)
+
+pub put_at-requires-2 : goal.put_at-requires-2
+put_at-requires-2 c at e =
+    omega (arith, colour_there c.args.format (length c.args.room.now) c.requires c.layout_of-layout.result c.layout_of-layout.ensures at e)
 
 pub returns : goal.returns
 unfolding layout_of time_fields colour_fields
