@@ -11,12 +11,12 @@ ghost use Rattle.release.specs.Assembly.{with_records};
 use fields::numbers::{number_at, put_number};
 use fields::{copying, slices, text};
 use lasfile::header::HEADER_BLOCK;
-use lasfile::vlr::{DESCRIPTION, FRONT, PAYLOAD_LENGTH, RECORD_ID, USER_ID};
-use lasfile::{header, vlr};
+use lasfile::vlr;
+use lasfile::vlr::{DESCRIPTION, FRONT, PAYLOAD_LENGTH, RECORD_ID, Records, USER_ID};
 use sheet::lookup;
 
 // How many records are kept, and where they end in a released file: its points begin there.
-#[derive(Clone, Copy)]
+#[derive(Clone, Copy, Debug, PartialEq, Eq)]
 pub struct KeptRecords {
     pub count: usize,
     pub end: usize,
@@ -49,18 +49,13 @@ fn written_length(vlr: &[u8]) -> usize
 pub(crate) fn measure(file: &[u8], sheet: &[u8]) -> KeptRecords
     ensures { result ≡ measured (public_of sheet.now file.now).records }
 {
-    let mut at = header::header_size(file);
-    let mut left = header::record_count(file);
     let mut count = 0;
     let mut end = HEADER_BLOCK;
-    while 0 < left {
-        let vlr = slices::part_at(file, at, file.len());
-        if keeps(sheet, vlr) {
+    for vlr in Records::new(file) {
+        if keeps(sheet, vlr.bytes) {
             count += 1;
-            end += written_length(vlr);
+            end += written_length(vlr.bytes);
         }
-        at += vlr::size_at(vlr, 0);
-        left -= 1;
     }
     KeptRecords { count, end }
 }
@@ -112,15 +107,10 @@ pub(crate) fn put_record_at(vlr: &[u8], out: &mut [u8], to: usize) -> usize
 pub(crate) fn copy_records(file: &[u8], sheet: &[u8], out: &mut [u8])
     ensures { out.new ≡ with_records sheet.now file.now out.old }
 {
-    let mut at = header::header_size(file);
-    let mut left = header::record_count(file);
     let mut to = HEADER_BLOCK;
-    while 0 < left {
-        let vlr = slices::part_at(file, at, file.len());
-        if keeps(sheet, vlr) {
-            to += put_record_at(vlr, out, to);
+    for vlr in Records::new(file) {
+        if keeps(sheet, vlr.bytes) {
+            to += put_record_at(vlr.bytes, out, to);
         }
-        at += vlr::size_at(vlr, 0);
-        left -= 1;
     }
 }

@@ -1,13 +1,13 @@
 -- The counted records of a file, one at a time, and where they end.
 -- Assumes nothing.
-use Rattle.std.proofs.Common.{◌≡◌, ℕ, zero, suc, ◌+◌, ◌*◌, ◌^◌, ◌<◌, Bool, true, false, ◌&&◌, leb, List, [], ◌∷◌, length, drop, refl, sym, ◌∙◌, add-one, arith, rules}
+use Rattle.std.proofs.Common.{◌≡◌, ℕ, zero, suc, ◌+◌, ◌*◌, ◌^◌, ◌<◌, Bool, true, false, ◌&&◌, leb, List, [], ◌∷◌, map, length, drop, refl, sym, ap, ◌∙◌, add-one, arith, rules}
 use Rattle.std.proofs.lemmas.Grind.{common_steps}
 use Rattle.std.proofs.lemmas.List.{drop-drop}
 use Rattle.std.specs.List.{list_all}
 use Rattle.fields.specs.Bytes.{Bytes, part}
 use Rattle.fields.proofs.ByteLaws.{from_place}
 use Rattle.lasfile.specs.HeaderFields.{header_size, record_count}
-use Rattle.lasfile.specs.Records.{size_of, placed, counted, walk_end}
+use Rattle.lasfile.specs.Records.{Record, record_of, size_of, places, walk, placed, counted, walk_end}
 use Rattle.lasfile.specs.FileChecks.{records_end}
 
 pub placed_none : (n at : ℕ) (s : Bytes) → n ≡ 0 → placed n at s ≡ []
@@ -27,6 +27,27 @@ place_low zero at place s b rest e h = absurd (search (rules, e))
 place_low (suc n) at place s b rest e h = let same : at ≡ place = search (rules, e) in omega (arith, same)
 
 pub ruleset walks = (placed_none, from_place)
+
+pub length-placed : (n at : ℕ) (s : Bytes) → length (placed n at s) ≡ n
+unfolding placed
+length-placed zero at s = refl
+length-placed (suc n) at s = ap suc (length-placed n (at + size_of 2 s) (drop (size_of 2 s) s))
+
+-- ---- what they say
+
+abbrev pub said : ℕ × Bytes → Record
+said r = record_of 2 r.1
+
+walk_placed : (n at : ℕ) (s : Bytes) → walk 2 n at s ≡ map said (placed n at (drop at s))
+unfolding walk places placed
+walk_placed zero at s = refl
+walk_placed (suc n) at s =
+    let size : ℕ = size_of 2 (drop at s) in
+    rw (drop-drop size at s) (ap (λ (rs : List Record). record_of 2 (drop at s) ∷ rs) (walk_placed n (at + size) s))
+
+pub walk_is : (s : Bytes) → walk 2 (record_count s) (header_size s) s ≡ map said (counted s)
+unfolding counted
+walk_is s = walk_placed (record_count s) (header_size s) s
 
 -- ---- whether they end by a place
 

@@ -9,12 +9,24 @@ use lib.ListN.{length, length-append}
 use lib.Seq.{sets}
 use Rattle.fields.specs.Bytes.{Bytes, AllBytes, part, num, bytes_of, zeros, join}
 use Rattle.fields.specs.Text.{padded}
-use Rattle.fields.proofs.ByteLaws.{num-part-lt, length-part-le, length-bytes_of}
+use Rattle.fields.proofs.ByteLaws.{num-part-lt, length-part-le, length-bytes_of, length-join}
+use Rattle.fields.specs.Lists.{total}
 use Rattle.fields.proofs.TextLaws.{held, length-padded}
 use Rattle.fields.proofs.StoreLaws.{store_behind}
-use Rattle.lasfile.specs.Records.{Record, record_of, record_bytes, written_length, SoundRecord}
+use Rattle.lasfile.specs.Records.{Record, record_widths, record_fields, record_of, record_bytes, written_length, SoundRecord}
 use Rattle.lasfile.proofs.vlr.FieldLaws.{user_of, id_of, description_of, payload_of, length_of}
 use Rattle.release.specs.KeptRecords.{name_bytes, content_bytes}
+
+-- what it is written as, of any bytes
+pub length-written : (v : Bytes) → length (record_bytes 2 (record_of 2 v)) ≡ written_length 2 (record_of 2 v)
+unfolding record_bytes written_length total
+length-written v =
+    let r : Record = record_of 2 v in
+    let user = length-padded 16 r.user (rw (user_of 2 v) (held 2 16 v).short) in
+    let description = length-padded 32 r.description (rw (description_of 2 v) (held 22 32 v).short) in
+    length-join (record_widths 2 (length r.payload)) (record_fields 2 r)
+    (refl, (user, (length-bytes_of 2 r.id, (length-bytes_of 2 (length r.payload), (description, (refl, tt))))))
+    ∙ omega arith
 
 module _ (v : Bytes) (bytes : AllBytes v) where
   payload_low : length (record_of 2 v).payload < 256 ^ 2

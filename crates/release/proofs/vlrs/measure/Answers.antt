@@ -1,49 +1,23 @@
 -- `vlrs::measure` meets its contract. Assumes nothing.
-use mathlib.Core.Path.{sym, ap, ◌∙◌}
+use mathlib.Core.Path.{sym, ◌∙◌}
 use native.Mathlib.Omega.{arith}
-use Rattle.fields.specs.Bytes.{Bytes, AllBytes}
-use Rattle.lasfile.specs.Records.{record_of, size_of, written_length}
-use Rattle.publicpart.specs.Public.{sheet_keeps}
-use Rattle.fields.proofs.ByteLaws.{from_place}
+use Rattle.lasfile.proofs.vlr.PlacedLaws.{length-placed}
 use Rattle.release.proofs.vlrs.KeptLaws.{measuring_begins, measuring_kept, measuring_past, measuring_ends}
-use Rattle.release.proofs.vlrs.measure.Goals.{else-keeps, then-keeps}
 use Rattle.release.proofs.vlrs.measure.Goals as goal
 
-pub loop-left-init : goal.loop-left-init
-loop-left-init c =
-    let a = c.args in
-    let bytes : AllBytes a.file.now = λ i. omega (arith, c.type_inv.file i) in (
-      bytes,
-      measuring_begins a.sheet.now a.file.now _ _ c.record_count-left.ensures c.header_size-at.ensures,
-    )
+pub loop-vlr-init : goal.loop-vlr-init
+loop-vlr-init c =
+    let it = c.new-vlr-items.result in
+    rw c.into_iter-vlr-iterator.ensures.into_iter_gives
+    (measuring_begins _ _ _ c.new-vlr-items.ensures (rw length-placed (omega (arith, it.in_range))))
 
-pub overflow_add-count : goal.overflow_add-count
-overflow_add-count c = let l = c.loop-left in omega (arith, l.invariant.1.few)
+pub loop-vlr-preserved-then-keeps : goal.loop-vlr-preserved-then-keeps
+loop-vlr-preserved-then-keeps c =
+    let long = c.written_length-end.ensures in
+    measuring_kept _ _ _ _ _ _ c.in-Some.ensures.steps _ _ c.loop-vlr.invariant _ long.0 long.1 (sym c.keeps.ensures ∙ c.if-keeps.true)
 
-pub overflow_add-end : goal.overflow_add-end
-overflow_add-end c = let l = c.loop-left in omega (arith, l.invariant.1.low, c.written_length-end.ensures.1)
-
-pub overflow_add-at : goal.overflow_add-at
-overflow_add-at c = let l = c.loop-left in omega (arith, l.invariant.1.place, c.size_at-at.ensures.1)
-
-pub loop-left-preserved : goal.loop-left-preserved
-loop-left-preserved c =
-    let l = c.loop-left in
-    let s = c.args.file.now in
-    let sheet = c.args.sheet.now in
-    let here = c.part_at-vlr.ensures ∙ from_place s l.at in
-    let size = c.size_at-at.ensures.0 ∙ ap (size_of 2) here in
-    let small = rw size at c.size_at-at.ensures.1 in
-    let keeps = c.keeps.ensures ∙ ap (λ (v : Bytes). sheet_keeps sheet (record_of 2 v)) here in (
-      l.invariant.0,
-      elim c.if-keeps.branch [
-        | then-keeps w ↦ let long = w.written_length-end.ensures.0 ∙ ap (λ (v : Bytes). written_length 2 (record_of 2 v)) here in
-            rw (w.count-is, w.end-is, long, size) (measuring_kept sheet s l.invariant.0 l.left l.at l.count l.end (omega arith) small l.invariant.1 (sym keeps ∙ w.if-keeps.true))
-        | else-keeps w ↦ rw (w.count-is, w.end-is, size) (measuring_past sheet s l.invariant.0 l.left l.at l.count l.end (omega arith) small l.invariant.1 (sym keeps ∙ w.if-keeps.false))
-      ],
-    )
+pub loop-vlr-preserved : goal.loop-vlr-preserved
+loop-vlr-preserved c = measuring_past _ _ _ _ _ _ c.in-Some.ensures.steps _ _ c.loop-vlr.invariant (sym c.keeps.ensures ∙ c.if-keeps.false)
 
 pub returns : goal.returns
-returns c =
-    let l = c.loop-left in
-    measuring_ends _ _ l.left l.at l.count l.end (omega arith) l.invariant.1
+returns c = measuring_ends _ _ _ _ _ c.in-None.ensures.steps.0 c.loop-vlr.invariant
