@@ -1,3 +1,4 @@
 pub mod LineLaws
+mod WalkLaws
 pub mod FirstLaws
 pub mod PlaceLaws

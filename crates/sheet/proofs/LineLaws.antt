@@ -8,11 +8,44 @@ use mathlib.Core.List.{[], ◌∷◌, ◌++◌}
 use lib.ListN.{length, take-append-drop}
 use Rattle.fields.specs.Checks.{Verdict, Passes, Fails, first_failing, then}
 use Rattle.fields.specs.Bytes.{Bytes}
-use Rattle.sheet.specs.Sheet.{line_length, kind, first_line, after_line, lines_from, lines, line_checks, lines_verdict, sheet_verdict}
+use Rattle.std.proofs.Common.{Option, Some, None}
+use Rattle.sheet.specs.declared.Kind.{Kind}
+use Rattle.sheet.specs.declared.Kind.TheVariants.{Classes, Record, Region}
+use Rattle.sheet.specs.Sheet.{line_length, kind, kind_of, length_of, first_line, after_line, lines_from, lines, line_checks, lines_verdict, sheet_verdict}
 
 pub first_after : (s : Bytes) → first_line s ++ after_line s ≡ s
 unfolding first_line after_line
 first_after s = take-append-drop (line_length (kind s)) s
+
+-- ---- a line's kind and its length
+
+pub known : (k : ℕ) (x : Kind) → kind_of k ≡ Some x → line_length k ≡ length_of x
+unfolding line_length
+known zero x e = cc
+known (suc zero) x e = grind arith
+known (suc (suc zero)) x e = grind arith
+known (suc (suc (suc zero))) x e = grind arith
+known (suc (suc (suc (suc k)))) x e = grind arith
+
+pub unknown : (k : ℕ) → kind_of k ≡ None → line_length k ≡ 0
+unfolding line_length
+unknown zero e = refl
+unknown (suc zero) e = cc
+unknown (suc (suc zero)) e = cc
+unknown (suc (suc (suc zero))) e = cc
+unknown (suc (suc (suc (suc k)))) e = refl
+
+module _ (k : ℕ) (read : Option Kind) (x : Kind) (is : read ≡ kind_of k) (some : read ≡ Some x) where
+  pub is_classes : x ≡ Classes → k ≡ 1
+  is_classes e = grind arith
+
+  pub is_record : x ≡ Record → k ≡ 2
+  is_record e = grind arith
+
+  pub is_region : x ≡ Region → k ≡ 3
+  is_region e = grind arith
+
+pub ruleset kinds = (known, unknown)
 
 -- ---- the lines
 
@@ -45,6 +78,9 @@ length-lines_from (suc n) (b ∷ bs) = omega (arith, length-lines_from n (after_
 
 pub at_most_64 : (s : Bytes) → length (lines s) ≤ 64
 at_most_64 s = rw (lines_from_lem s) (length-lines_from 64 s)
+
+-- what the walk over the lines needs of them
+pub ruleset turns = (lines_more, lines_full, lines_end)
 
 -- ---- their checks
 

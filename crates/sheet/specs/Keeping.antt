@@ -11,8 +11,6 @@ use Rattle.fields.specs.Checks.{Verdict, Passes, Fails}
 use Rattle.sheet.specs.Tests.{Tested}
 use Rattle.sheet.specs.Tests as tested
 use Rattle.sheet.specs.declared.lookup.Searched.{Searched}
-use Rattle.sheet.specs.declared.lookup.Sought.{Sought}
-use Rattle.sheet.specs.declared.lookup.Sought.TheVariants.{Class, Record}
 
 unfoldable pub contains_class : Bytes → ℕ → Bool
 contains_class l c = eqb (kind l) 1 && (leb (lowest l) c && leb c (highest l))
@@ -120,12 +118,7 @@ TableOf sheet f table = (b : ℕ) → b < 256 → get_or table b false ≡ keeps
 unfoldable pub in_table : List Bool → ℕ → Bytes → Bool
 in_table table f p = get_or table (class_byte f p) false
 
--- ---- what the code's search looks for, and what it comes to; no public contract cites them
-
--- whether a line keeps what is looked for, with the record's cut user ID
-unfoldable pub line_keeps : Sought → Bytes → Bytes → Bool
-line_keeps (Class c) user l = contains_class l c
-line_keeps (Record id) user l = names_record l user id
+-- ---- what the code's search comes to; no public contract cites it
 
 unfoldable pub search_of : (Bytes → Bool) → List Bytes → Searched
 search_of p ls = record { found = any_of p ls; lines = up_to_first p ls }

@@ -1,11 +1,13 @@
 -- The keep sheet: its lines and its checks.
 -- Assumes nothing.
-use Rattle.std.specs.Prelude.{ℕ, zero, suc, ◌+◌, ◌*◌, Bool, not, ◌&&◌, ◌||◌, List, [], ◌∷◌, length, get_or, take, drop, leb, eqb, ℤ}
+use Rattle.std.specs.Prelude.{ℕ, zero, suc, ◌+◌, ◌*◌, Bool, not, ◌&&◌, ◌||◌, List, [], ◌∷◌, length, get_or, take, drop, leb, eqb, cond, Option, Some, None, ℤ}
 use Rattle.std.specs.Int.Signed.{le_z}
 use Rattle.std.specs.Int.{w32}
 use Rattle.std.proofs.Common.{to_z}
 use Rattle.fields.specs.Checks.{Verdict, Passes, Fails, Check, ◌below◌, ◌differs_from◌, not_so, first_failing, then}
 use Rattle.fields.specs.Bytes.{Bytes, part, num}
+use Rattle.sheet.specs.declared.Kind.{Kind}
+use Rattle.sheet.specs.declared.Kind.TheVariants.{Classes, Record, Region}
 use Rattle.fields.specs.Text.{cut}
 
 -- ---- a line: the bytes 4B 53, a kind byte, and what the kind has
@@ -16,6 +18,15 @@ kind l = get_or l 2 0
 -- a line's length by its kind: 5 for kind 1, 21 for kind 2, 27 for kind 3, and 0 for an unknown kind
 unfoldable pub line_length : ℕ → ℕ
 line_length k = get_or (0 ∷ 5 ∷ 21 ∷ 27 ∷ []) k 0
+
+-- the kinds as the code tells them apart, and their lengths; no public contract cites these
+abbrev pub kind_of : ℕ → Option Kind
+kind_of k = cond (eqb k 1) (Some Classes) (cond (eqb k 2) (Some Record) (cond (eqb k 3) (Some Region) None))
+
+abbrev pub length_of : Kind → ℕ
+length_of Classes = 5
+length_of Record = 21
+length_of Region = 27
 
 -- of a kind 1 line: the lowest and the highest class
 unfoldable pub lowest : Bytes → ℕ

@@ -1,16 +1,66 @@
 // Which classes and records a keep sheet keeps, by its lines alone.
-ghost use Rattle.std.specs.Prelude.{◌≡◌};
+ghost use Rattle.std.specs.Prelude.{◌≡◌, Bool};
+ghost use Rattle.fields.specs.Bytes.{Bytes};
 ghost use Rattle.fields.specs.Text.{cut};
-ghost use Rattle.sheet.specs.Sheet.{lines};
-ghost use Rattle.sheet.specs.Keeping.{contains_class, names_record, keeps_class, keeps_record, line_keeps, search_of};
+ghost use Rattle.sheet.specs.Sheet.{lines, kind, lowest, highest, user_id, record_id};
+ghost use Rattle.sheet.specs.Keeping.{contains_class, names_record, keeps_class, keeps_record, search_of};
 
-use fields::{slices, text};
+use crate::{Kind, Lines};
+use fields::{numbers, slices, text};
 
-// What is looked for on a sheet: a class, or a record's ID beside its user ID.
-#[derive(Clone, Copy)]
-enum Sought {
-    Class(u8),
-    Record(u16),
+// The places of a kind 2 line's fields.
+const USER_ID: usize = 3;
+
+const RECORD_ID: usize = 19;
+
+// What is looked for on a sheet.
+trait Sought {
+    ghost is_kept_by: { Self → Bytes → Bool };
+
+    // Whether a line keeps it.
+    fn is_kept_by(&self, line: &[u8]) -> bool
+        ensures { result ≡ is_kept_by self.now line.now };
+}
+
+// A class: lines of kind 1 keep those that they contain.
+#[derive(Clone, Copy, Debug, PartialEq, Eq)]
+struct Class(u8);
+
+#[tactic(auto, unfolding(crate::specs::Keeping::contains_class, crate::specs::Sheet::kind, crate::specs::Sheet::lowest, crate::specs::Sheet::highest))]
+impl Sought for Class {
+    ghost is_kept_by = { λ c line. contains_class line c.0 };
+
+    fn is_kept_by(&self, line: &[u8]) -> bool {
+        match Kind::of(line) {
+            Some(Kind::Classes) => {
+                (numbers::u8_at(line, crate::LOWEST) <= self.0)
+                    & (self.0 <= numbers::u8_at(line, crate::HIGHEST))
+            }
+            _ => false,
+        }
+    }
+}
+
+// A record by its user ID and its record ID: lines of kind 2 keep those that they name.
+#[derive(Clone, Copy, Debug, PartialEq, Eq)]
+struct Record<'a> {
+    user: &'a [u8],
+    id: u16,
+}
+
+#[tactic(auto, unfolding(crate::specs::Keeping::names_record, crate::specs::Sheet::kind, crate::specs::Sheet::user_id, crate::specs::Sheet::record_id))]
+impl<'a> Sought for Record<'a> {
+    ghost is_kept_by = { λ r line. names_record line (cut r.user.now) r.id };
+
+    fn is_kept_by(&self, line: &[u8]) -> bool {
+        match Kind::of(line) {
+            Some(Kind::Record) => {
+                text::same_cut(slices::part_at(line, USER_ID, 16), self.user)
+                    & (numbers::number_at(line, RECORD_ID, 2) == u64::from(self.id))
+            }
+            _ => false,
+        }
+    }
 }
 
 // What a search comes to: whether a line keeps what is looked for, and how many lines were looked at.
@@ -20,62 +70,19 @@ pub struct Searched {
     pub lines: u8,
 }
 
-// The places of a kind 2 line's fields.
-const USER_ID: usize = 3;
-
-const RECORD_ID: usize = 19;
-
-// Whether a line is of kind 1 and contains a class.
-fn contains_class(line: &[u8], class: u8) -> bool
-    ensures { result ≡ contains_class line.now class }
-{
-    (fields::numbers::u8_at(line, crate::KIND) == 1)
-        & ((fields::numbers::u8_at(line, crate::LOWEST) <= class)
-            & (class <= fields::numbers::u8_at(line, crate::HIGHEST)))
-}
-
-// Whether a line is of kind 2 and names a record.
-fn names_record(line: &[u8], user: &[u8], id: u16) -> bool
-    ensures { result ≡ names_record line.now (cut user.now) id }
-{
-    (fields::numbers::u8_at(line, crate::KIND) == 2)
-        & (text::same_cut(slices::part_at(line, USER_ID, 16), user)
-            & (fields::numbers::number_at(line, RECORD_ID, 2) == id as u64))
-}
-
-// Whether a line keeps what is looked for; `user` is a record's user ID, and is not looked at for a class.
-fn line_keeps(line: &[u8], sought: Sought, user: &[u8]) -> bool
-    ensures { result ≡ line_keeps sought (cut user.now) line.now }
-{
-    match sought {
-        Sought::Class(class) => contains_class(line, class),
-        Sought::Record(id) => names_record(line, user, id),
-    }
-}
-
 // Looks for a line that keeps what is looked for, from the first line on, and leaves at the first that does.
-fn search(sheet: &[u8], sought: Sought, user: &[u8]) -> Searched
-    ensures { result ≡ search_of (line_keeps sought (cut user.now)) (lines sheet.now) }
+fn search<S: Sought>(sheet: &[u8], sought: &S) -> Searched
+    ensures { result ≡ search_of (S.is_kept_by sought.now) (lines sheet.now) }
 {
-    let mut rest = sheet;
     let mut looked = 0;
-    while 0 < rest.len() {
-        if looked == crate::MOST_LINES {
+    for line in Lines::new(sheet) {
+        looked += 1;
+        if sought.is_kept_by(line) {
             return Searched {
-                found: false,
+                found: true,
                 lines: looked,
             };
         }
-        let line = crate::first_line(rest);
-        if line_keeps(line, sought, user) {
-            return Searched {
-                found: true,
-                lines: looked + 1,
-            };
-        }
-        let next = crate::after_line(rest);
-        rest = next;
-        looked += 1;
     }
     Searched {
         found: false,
@@ -87,7 +94,7 @@ fn search(sheet: &[u8], sought: Sought, user: &[u8]) -> Searched
 pub(crate) fn search_class(sheet: &[u8], class: u8) -> Searched
     ensures { result ≡ search_of (λ l. contains_class l class) (lines sheet.now) }
 {
-    search(sheet, Sought::Class(class), b"")
+    search(sheet, &Class(class))
 }
 
 // Whether some line contains a class. Does not check the sheet.
@@ -101,5 +108,5 @@ pub(crate) fn holds_class(sheet: &[u8], class: u8) -> bool
 pub fn holds_record(sheet: &[u8], user: &[u8], id: u16) -> bool
     ensures { result ≡ keeps_record sheet.now (cut user.now) id }
 {
-    search(sheet, Sought::Record(id), user).found
+    search(sheet, &Record { user, id }).found
 }

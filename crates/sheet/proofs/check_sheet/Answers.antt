@@ -1,33 +1,23 @@
 -- `sheet::check_sheet` meets its contract. Assumes nothing.
-use mathlib.Core.Path.{refl, sym, ◌∙◌}
+use mathlib.Core.Path.{refl}
 use Rattle.std.proofs.Common.{rules}
-use native.Mathlib.Omega.{arith}
-use Rattle.sheet.proofs.LineLaws.{verdict_from, verdict_here, verdict_next, verdict_full, verdict_end}
+use Rattle.sheet.proofs.WalkLaws.{walk_begun, walk_fails, walk_next, walk_passes, walk_full}
 use Rattle.sheet.proofs.check_sheet.Goals as goal
 
-pub loop-rest-init : goal.loop-rest-init
-loop-rest-init c = verdict_from _
-
-pub returns-then-left-eq0 : goal.returns-then-left-eq0
-returns-then-left-eq0 c =
-    let l = c.loop-rest in
-    sym (l.invariant ∙ verdict_full l.left l.rest.now c.if-left-eq0.true (omega arith))
+pub loop-init : goal.loop-init
+loop-init c = (tt, tt, walk_begun _ _ (search rules))
 
 pub returns-in_err-check_line : goal.returns-in_err-check_line
 returns-in_err-check_line c =
-    let l = c.loop-rest in
-    let here =
-        l.invariant
-        ∙ verdict_here l.left l.rest.now _ _ (omega arith) (omega arith) c.in_err-check_line.ensures refl in
-    search (rules, sym here)
+    let refused = walk_fails _ _ _ c.loop.invariant.2 _ _ c.in-Some.ensures.steps _ _ c.in_err-check_line.ensures refl in
+    search (rules, refused)
 
-pub loop-rest-preserved : goal.loop-rest-preserved
-loop-rest-preserved c =
-    let l = c.loop-rest in
-    l.invariant
-    ∙ verdict_next l.left l.rest.now _ _ (omega arith) (omega arith) c.in_ok-check_line.ensures refl c.after_line-next.ensures
+pub loop-preserved : goal.loop-preserved
+loop-preserved c =
+    (tt, tt, walk_next _ _ _ c.loop.invariant.2 _ _ c.in-Some.ensures.steps _ _ c.in_ok-check_line.ensures refl c.after_line-rest.ensures)
 
-pub returns : goal.returns
-returns c =
-    let l = c.loop-rest in
-    sym (l.invariant ∙ verdict_end l.left l.rest.now (omega arith))
+pub returns-then-is_empty : goal.returns-then-is_empty
+returns-then-is_empty c = walk_passes _ _ _ c.loop.invariant.2 (search rules)
+
+pub returns-else-is_empty : goal.returns-else-is_empty
+returns-else-is_empty c = walk_full _ _ _ c.loop.invariant.2 c.in-None.ensures.steps.0 (search rules)

@@ -1,11 +1,10 @@
--- What the loop of `sheet::check_sheet` keeps: the sheet's verdict is that of the rest, where `left` more lines may
--- begin. Assumes nothing.
-use mathlib.Core.Path.{◌≡◌}
-use Rattle.sheet.specs.Sheet.{lines_verdict, sheet_verdict}
+-- What the loop of `sheet::check_sheet` keeps: the lines that are left are those of the rest, and the sheet's verdict is
+-- that of the rest. Assumes nothing.
+use Rattle.sheet.specs.Sheet.{lines_from}
+use Rattle.sheet.proofs.WalkLaws.{Walk}
 use Rattle.sheet.proofs.check_sheet.Given as goal
 
-abbrev pub invariant-loop-rest : goal.invariant-loop-rest
-invariant-loop-rest l = sheet_verdict l.sheet ≡ lines_verdict l.left l.rest
-
-abbrev pub decreases-loop-rest : goal.decreases-loop-rest
-decreases-loop-rest l = l.left
+abbrev pub invariant-loop : goal.invariant-loop
+invariant-loop l =
+    (goal.iterator-loop).can_next l.iterator' × (goal.iterator-loop).is_finite l.iterator'
+    × Walk l.sheet l.rest (lines_from l.iterator'.left l.iterator'.rest.now)

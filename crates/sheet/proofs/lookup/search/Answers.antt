@@ -1,39 +1,17 @@
 -- `lookup::search` meets its contract. Assumes nothing.
-use mathlib.Core.Path.{sym, ◌∙◌}
-use native.Mathlib.Omega.{arith}
-use Rattle.sheet.proofs.lookup.SearchLaws.{begin, full, end, here, next}
+use Rattle.std.proofs.Common.{rules, sym}
+use Rattle.sheet.proofs.LineLaws.{at_most_64}
+use Rattle.sheet.proofs.lookup.SearchLaws.{begin, here, next, end}
 use Rattle.sheet.proofs.lookup.search.Goals as goal
 
-pub loop-rest-init : goal.loop-rest-init
-loop-rest-init c = begin _ _
+pub loop-line-init : goal.loop-line-init
+loop-line-init g c = (tt, tt, begin (g.S.Sought.is_kept_by c.args.sought.now) _ _ (search rules) (at_most_64 _))
 
-pub returns-then-looked-eq-MOST_LINES : goal.returns-then-looked-eq-MOST_LINES
-returns-then-looked-eq-MOST_LINES c =
-    let l = c.loop-rest in
-    sym (full _ _ l.looked l.rest.now l.invariant c.if-looked-eq-MOST_LINES.true)
+pub returns-then-is_kept_by : goal.returns-then-is_kept_by
+returns-then-is_kept_by g c = sym (here _ _ c.loop-line.looked _ c.loop-line.invariant.2 _ _ c.in-Some.ensures.steps (search rules))
 
-pub returns-then-line_keeps : goal.returns-then-line_keeps
-returns-then-line_keeps c =
-    let l = c.loop-rest in
-    let line = c.first_line-line in
-    sym (here _ _ l.looked l.rest.now l.invariant (omega (arith, l.invariant.few)) (omega arith) line.result.now line.ensures (sym c.line_keeps.ensures ∙ c.if-line_keeps.true))
-
-pub loop-rest-preserved : goal.loop-rest-preserved
-loop-rest-preserved c =
-    let l = c.loop-rest in
-    let line = c.first_line-line in
-    next _ _ l.looked l.rest.now l.invariant (omega (arith, l.invariant.few)) (omega arith) line.result.now line.ensures _ c.after_line-next.ensures (sym c.line_keeps.ensures ∙ c.if-line_keeps.false)
+pub loop-line-preserved : goal.loop-line-preserved
+loop-line-preserved g c = (tt, tt, next _ _ c.loop-line.looked _ c.loop-line.invariant.2 _ _ c.in-Some.ensures.steps (search rules))
 
 pub returns : goal.returns
-returns c =
-    let l = c.loop-rest in
-    sym (end _ _ l.looked l.rest.now l.invariant (omega arith))
-
-pub overflow_add-result : goal.overflow_add-result
-overflow_add-result c = omega (arith, c.loop-rest.invariant.few)
-
-pub overflow_add-looked : goal.overflow_add-looked
-overflow_add-looked c = omega (arith, c.loop-rest.invariant.few)
-
-pub loop-rest-smaller : goal.loop-rest-smaller
-loop-rest-smaller c = omega (arith, c.loop-rest.invariant.few)
+returns g c = sym (end _ _ c.loop-line.looked _ c.loop-line.invariant.2 (search rules))
