@@ -1,5 +1,5 @@
 // A table of the points that a sheet keeps, by their classification byte, and whether it keeps a point.
-ghost use Rattle.std.specs.Prelude.{◌≡◌, ◌<◌};
+ghost use Rattle.std.specs.Prelude.{◌≡◌};
 ghost use Rattle.sheet.specs.Keeping.{keeps_byte, TableOf, in_table};
 
 use crate::lookup;
@@ -22,22 +22,15 @@ pub fn class_table(sheet: &[u8], format: u8) -> [bool; 256]
     ensures { TableOf sheet.now format result }
 {
     let mut table = [false; 256];
-    for b in 0..256 {
-        let kept = keeps_byte(sheet, format, b as u8);
-        table[b] = kept;
+    for byte in 0..=255 {
+        table[usize::from(byte)] = keeps_byte(sheet, format, byte);
     }
     table
-}
-
-fn wide(b: u8) -> usize
-    ensures { (result ≡ b) × (result < 256) }
-{
-    b as usize
 }
 
 // Whether a table keeps a point, by its format and bytes.
 pub fn in_table(table: &[bool; 256], format: u8, point: &[u8]) -> bool
     ensures { result ≡ in_table table.now format point.now }
 {
-    table[wide(raw::class_byte(format, point))]
+    table[usize::from(raw::class_byte(format, point))]
 }

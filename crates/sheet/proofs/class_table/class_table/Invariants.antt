@@ -6,8 +6,8 @@ use lib.ListN.{length, get_or}
 use Rattle.sheet.specs.Keeping.{keeps_byte}
 use Rattle.sheet.proofs.class_table.class_table.Given as goal
 
-abbrev pub invariant-loop-b : goal.invariant-loop-b
-invariant-loop-b l = (l.b ≤ 256) × (length l.table ≡ 256) × ((k : ℕ) → k < l.b → get_or l.table k false ≡ keeps_byte l.sheet l.format k)
+abbrev pub invariant-loop-byte : goal.invariant-loop-byte
+invariant-loop-byte l = (l.byte ≤ 256) × (length l.table ≡ 256) × ((k : ℕ) → k < l.byte → get_or l.table k false ≡ keeps_byte l.sheet l.format k)
 
-abbrev pub decreases-loop-b : goal.decreases-loop-b
-decreases-loop-b l = 256 - l.b
+abbrev pub decreases-loop-byte : goal.decreases-loop-byte
+decreases-loop-byte l = 256 - l.byte

@@ -10,4 +10,4 @@ pub returns : goal.returns
 unfolding in_table
 returns c =
     let table = c.args.table.now in
-    ap (λ (byte : ℕ). get_or table byte false) (c.wide.ensures.0 ∙ c.class_byte.ensures)
+    ap (λ (byte : ℕ). get_or table byte false) (c.from.ensures ∙ c.class_byte.ensures)
