@@ -5,10 +5,8 @@ use Prim.Native.Nat.{ℕ, zero, suc, ◌-◌, ◌≤◌, ◌<◌}
 use native.Mathlib.Omega.{arith}
 use mathlib.Core.List.{List, [], ◌∷◌}
 use lib.ListN.{length}
-use Rattle.fields.specs.declared.Verdict.{Verdict}
-use Rattle.fields.specs.declared.Verdict.TheVariants.{Passes, Fails}
+use Rattle.fields.specs.Checks.{Verdict, Passes, Fails, first_failing}
 use Rattle.fields.specs.Bytes.{Bytes}
-use Rattle.fields.specs.Checks.{first_failing}
 use Rattle.sheet.specs.Sheet.{after_line, lines_from, lines, line_checks, lines_verdict, sheet_verdict}
 use Rattle.sheet.proofs.LineLaws.{lines_from_lem, verdict_from, verdict_here, verdict_next, verdict_full, verdict_end}
 
