@@ -10,6 +10,7 @@ use lib.ListN.{length, take, drop, get_or, length-append, length-take, length-dr
 use lib.Seq.{take_all, take_at, drop_at, drop-append-add, get_or-drop, drop-drop, take-take, take-nil, take-add}
 use lib.Dec.{T, eqb, eqb→eq, eqb_refl, leb}
 use borrow.Author.Tests.{leb-true, leb-false}
+use Rattle.std.specs.Cmp.Lexicographic.{pointwise}
 use Rattle.fields.specs.Lists.{All, total}
 use Rattle.fields.specs.Bytes.{Bytes, AllBytes, part, num, bytes_of, same, join, pieces, start, Fit}
 
@@ -155,6 +156,9 @@ part-part at w i k s h =
     let e : part i k (part at w s) ≡ part i k (drop at s) = unfold part in part-take i k w (drop at s) h in
     e ∙ part-drop at i k s
 
+-- for functions that read numbers
+pub ruleset reading = (num-part-lt, length-part-le, fits_there)
+
 -- ---- equal runs
 
 pub and-false : (b : Bool) → b && false ≡ false
@@ -189,6 +193,14 @@ same_self x = go (same x x) (same_refl x)
     go : (b : Bool) → T b → b ≡ true
     go true t = refl
     go false t = absurd t
+
+-- the same by the library's comparison of two slices
+pub pointwise_same : (x y : Bytes) → pointwise eqb x y ≡ same x y
+unfolding same
+pointwise_same [] [] = refl
+pointwise_same [] (y ∷ ys) = refl
+pointwise_same (x ∷ xs) [] = refl
+pointwise_same (x ∷ xs) (y ∷ ys) = ap (λ (r : Bool). eqb x y && r) (pointwise_same xs ys)
 
 -- what comparing says of a part p, by its answer r
 pub differs : (r : Bool) (x p y : Bytes) → r ≡ same x y → x ≡ p → r ≡ false → same p y ≡ false

@@ -7,11 +7,13 @@ use native.Mathlib.Nat.{eq-zero-or-pos}
 use native.Mathlib.Omega.{arith}
 use mathlib.Core.Bool.{cond}
 use mathlib.Core.List.{[], ◌∷◌, ◌++◌, append_assoc, append-nil}
-use lib.ListN.{length, take, drop, set, length-set, length-drop, take-append-drop, drop_of_length-le}
+use lib.ListN.{length, take, drop, set, length-set, length-drop, take-append-drop, drop_of_length-le, length-replicate}
 use lib.Dec.{leb}
 use borrow.Author.Tests.{le-leb}
 use lib.Seq.{take_all, sets, sets-eq, paste, length-take-le, take_at, drop_at, set_comm, set_out, drop-set-lt, drop-set-add, take-set-le, drop-drop}
-use Rattle.fields.specs.Bytes.{Bytes, part}
+use borrow.Rule.Slice.PartMut.{put_mid}
+use Rattle.std.proofs.lemmas.Grind.{common_steps}
+use Rattle.fields.specs.Bytes.{Bytes, part, zeros}
 
 -- one run behind another
 pub sets-append : (d : Bytes) (at : ℕ) (xs ys : Bytes) → sets d at (xs ++ ys) ≡ sets (sets d at xs) (at + length xs) ys
@@ -58,6 +60,18 @@ pub paste-sets : (d : Bytes) (at : ℕ) (s : Bytes) (n : ℕ) → n ≤ length s
 paste-sets d at s n hs hd =
     let e : length (take n s) ≡ n = length-take-le n s hs in
     sym (sets-eq (take n s) d at (rw e hd) ∙ ap (λ (k : ℕ). take at d ++ take n s ++ drop (at + k) d) e)
+
+-- what was written into a part is a run of stores, and so are zeros, as far as there is room for them
+pub put_mid_sets : (d xs : Bytes) (at n : ℕ) → length xs ≡ n → at + n ≤ length d → put_mid at n d xs ≡ sets d at xs
+put_mid_sets d xs at n = grind (arith, common_steps, sets-eq)
+
+take-zeros : (m n : ℕ) → m ≤ n → take m (zeros n) ≡ zeros m
+take-zeros zero n h = refl
+take-zeros (suc m) zero h = absurd (omega arith)
+take-zeros (suc m) (suc n) h = ap (λ (r : Bytes). 0 ∷ r) (take-zeros m n (omega arith))
+
+pub sets_zeros : (d : Bytes) (at n m : ℕ) → at ≤ length d → m ≡ min n (length d - at) → sets d at (zeros m) ≡ sets d at (zeros n)
+sets_zeros d at n m h e = rw (← take-zeros m n (omega arith)) (sets_least d at m (zeros n) h (simp length-replicate e))
 
 -- what was stored whole or not at all, where there is room
 pub stored_whole : (d : Bytes) (at : ℕ) (xs r : Bytes) → r ≡ cond (leb (at + length xs) (length d)) (sets d at xs) d → at + length xs ≤ length d → r ≡ sets d at xs
@@ -136,3 +150,6 @@ sets_same at b s h e =
     ∙ append_assoc (take at s) b (drop (at + length b) s)
     ∙ ap (λ (r : Bytes). take at s ++ r) (ap (λ (r : Bytes). r ++ drop (at + length b) s) (sym e) ∙ rw behind (take-append-drop (length b) (drop at s)))
     ∙ take-append-drop at s
+
+-- for functions that write zeros
+pub ruleset zeroing = (put_mid_sets, sets_zeros, sets_out)

@@ -9,11 +9,8 @@ fn copy_bytes(src: &[u8], n: usize, dst: &mut [u8], at: usize)
     requires { (n ≤ length src.now) × (at + n ≤ length dst.old) }
     ensures { dst.new ≡ paste dst.old at src.now n }
 {
-    let mut i = 0;
-    while i < n {
-        dst[at + i] = src[i];
-        i += 1;
-    }
+    let end = at + n;
+    dst[at..end].copy_from_slice(&src[..n]);
 }
 
 // Copies 16 bytes. All are read before the first is written, so that the compiler moves them at once.
@@ -22,12 +19,10 @@ fn copy_16(src: &[u8], from: usize, dst: &mut [u8], at: usize)
     ensures { dst.new ≡ paste dst.old at (drop from src.now) 16 }
 {
     let mut block = [0u8; 16];
-    for j in 0..16 {
-        block[j] = src[from + j];
-    }
-    for k in 0..16 {
-        dst[at + k] = block[k];
-    }
+    let next = from + 16;
+    block.copy_from_slice(&src[from..next]);
+    let end = at + 16;
+    dst[at..end].copy_from_slice(&block);
 }
 
 // Copies 16 bytes or more, 16 at a time. The last 16 may overlap those before them.

@@ -1,8 +1,10 @@
 // Little-endian numbers of any width up to 8 bytes, read and written at any place. Bytes past the end read as 0 and are
 // not written.
-ghost use Rattle.std.specs.Prelude.{◌≡◌, ◌+◌, ◌*◌, ◌^◌, ◌≤◌, ◌<◌, min, leb, length, get_or};
+ghost use Rattle.std.specs.Prelude.{◌≡◌, ◌+◌, ◌-◌, ◌*◌, ◌^◌, ◌≤◌, ◌<◌, min, leb, length, get_or};
 ghost use Rattle.std.proofs.lemmas.List.Edits.{sets};
 ghost use Rattle.fields.specs.Bytes.{part, num, bytes_of};
+
+use crate::slices::part_at;
 
 // Whether n bytes from a place on end by `length`. The sum of place and n is one of whole numbers: it cannot wrap.
 pub fn fits_in(length: usize, at: usize, n: usize) -> bool
@@ -19,90 +21,87 @@ pub fn fits_in(length: usize, at: usize, n: usize) -> bool
 pub fn least(a: usize, b: usize) -> usize
     ensures { result ≡ min a b }
 {
-    if a < b { a } else { b }
-}
-
-fn wide(b: u8) -> u64
-    ensures { (result ≡ b) × (result < 256) }
-{
-    b as u64
+    a.min(b)
 }
 
 // The byte at a place.
 pub fn u8_at(s: &[u8], at: usize) -> u8
     ensures { result ≡ get_or s.now at 0 }
 {
-    if at < s.len() { s[at] } else { 0 }
+    s.get(at).copied().unwrap_or(0)
 }
 
-// The number of w bytes, from the lowest up: `unit` is what the next byte counts.
-fn half_within(s: &[u8], at: usize, w: usize) -> u64
-    requires { (w ≤ 4) × (at + w ≤ length s.now) }
-    ensures { (result ≡ num (part at w s.now)) × (result < 256 ^ w) }
+// The number of at most 8 bytes, the lowest first.
+#[tactic(auto, using(crate::proofs::numbers::WordLaws::read_word))]
+fn number_of(bytes: &[u8]) -> u64
+    requires { length bytes.now ≤ 8 }
+    ensures { result ≡ num bytes.now }
 {
-    let mut i = 0;
-    let mut unit: u64 = 1;
-    let mut r: u64 = 0;
-    while i < w {
-        r = r + unit * wide(s[at + i]);
-        unit = 256 * unit;
-        i += 1;
-    }
-    r
+    let mut word = [0; 8];
+    word[..bytes.len()].copy_from_slice(bytes);
+    u64::from_le_bytes(word)
 }
 
-// The number of w bytes, all of which are there. In halves, since each of these compiles to one load.
-fn number_within(s: &[u8], at: usize, w: usize) -> u64
-    requires { (w ≤ 8) × (at + w ≤ length s.now) }
-    ensures { (result ≡ num (part at w s.now)) × (result < 256 ^ w) }
+// The same byte by byte, the highest first: where bytes are missing, a caller is to need no call.
+#[tactic(auto, using(crate::proofs::numbers::WordLaws::by_bytes))]
+fn number_by_bytes(bytes: &[u8]) -> u64
+    requires { length bytes.now ≤ 8 }
+    ensures { result ≡ num bytes.now }
 {
-    if w <= 4 {
-        half_within(s, at, w)
-    } else {
-        half_within(s, at, 4) + 4294967296 * half_within(s, at + 4, w - 4)
+    let mut number = 0;
+    for i in (0..bytes.len()).rev() {
+        number = 256 * number + u64::from(bytes[i]);
     }
+    number
 }
 
 // The number of the `width` bytes at a place; of the first 8 where there are more. Whether all are there is asked
 // first: the width is then a constant where the caller's is.
+#[tactic(auto, using(crate::proofs::ByteLaws::reading), unfolding(crate::specs::Bytes::part))]
 pub fn number_at(s: &[u8], at: usize, width: usize) -> u64
     ensures { (result ≡ num (part at (min width 8) s.now)) × (result < 256 ^ min width 8) }
 {
     let w = least(width, 8);
     if fits_in(s.len(), at, w) {
-        return number_within(s, at, w);
+        let end = at + w;
+        number_of(&s[at..end])
+    } else {
+        number_by_bytes(part_at(s, at, w))
     }
-    if s.len() <= at {
-        return 0;
-    }
-    number_within(s, at, s.len() - at)
 }
 
-// Writes the w lowest bytes of a number, the lowest first.
-fn put_within(s: &mut [u8], at: usize, w: usize, n: u64)
-    requires { at + w ≤ length s.old }
-    ensures { s.new ≡ sets s.old at (bytes_of w n) }
+// Fills bytes with those of a number, the lowest first; behind its 8 come zeros.
+#[tactic(auto, using(crate::proofs::numbers::WordLaws::written))]
+fn write_number(bytes: &mut [u8], n: u64)
+    ensures { bytes.new ≡ bytes_of (length bytes.old) n }
 {
-    let mut i = 0;
-    let mut rest = n;
-    while i < w {
-        s[at + i] = (rest % 256) as u8;
-        rest = rest / 256;
-        i += 1;
+    let word = n.to_le_bytes();
+    let low = least(bytes.len(), 8);
+    bytes[..low].copy_from_slice(&word[..low]);
+    bytes[low..].fill(0);
+}
+
+// Writes as many of the lowest bytes of a number as there is room for at a place.
+#[cold]
+#[inline(never)]
+#[tactic(auto, using(crate::proofs::numbers::WordLaws::numbering))]
+fn put_short(s: &mut [u8], at: usize, n: u64)
+    ensures { s.new ≡ sets s.old at (bytes_of (length s.old - at) n) }
+{
+    if at < s.len() {
+        write_number(&mut s[at..], n);
     }
 }
 
 // Writes a number into the `width` bytes at a place. Whether there is room for all is asked first, as above.
+#[tactic(auto, using(crate::proofs::numbers::WordLaws::numbering))]
 pub fn put_number(s: &mut [u8], at: usize, width: usize, n: u64)
     ensures { s.new ≡ sets s.old at (bytes_of width n) }
 {
     if fits_in(s.len(), at, width) {
-        put_within(s, at, width, n);
-        return;
+        let end = at + width;
+        write_number(&mut s[at..end], n);
+    } else {
+        put_short(s, at, n);
     }
-    if s.len() <= at {
-        return;
-    }
-    let room = s.len() - at;
-    put_within(s, at, room, n);
 }

@@ -18,23 +18,15 @@ pub fn part_at(s: &[u8], at: usize, n: usize) -> &[u8]
     }
 }
 
+#[tactic(auto, using(crate::proofs::ByteLaws::pointwise_same))]
 pub fn same_bytes(a: &[u8], b: &[u8]) -> bool
     ensures { result ≡ same a.now b.now }
 {
-    if a.len() != b.len() {
-        return false;
-    }
-    let mut i = 0;
-    while i < a.len() {
-        if a[i] != b[i] {
-            return false;
-        }
-        i += 1;
-    }
-    true
+    a == b
 }
 
 // Zeroes n bytes from a place on.
+#[tactic(auto, using(crate::proofs::StoreLaws::zeroing))]
 pub fn zero(dst: &mut [u8], at: usize, n: usize)
     ensures { dst.new ≡ sets dst.old at (zeros n) }
 {
@@ -42,9 +34,5 @@ pub fn zero(dst: &mut [u8], at: usize, n: usize)
         return;
     }
     let end = at + crate::numbers::least(n, dst.len() - at);
-    let mut i = at;
-    while i < end {
-        dst[i] = 0;
-        i += 1;
-    }
+    dst[at..end].fill(0);
 }

@@ -7,58 +7,53 @@ ghost use Rattle.fields.specs.Text.{cut, padded};
 use crate::{copying, numbers, slices};
 
 // The length of a text's cut: `end` is behind the last byte that is no space.
+#[tactic(auto, using(crate::proofs::text::EndLaws::ends))]
 pub fn cut_length(text: &[u8]) -> usize
     ensures { result ≡ length (cut text.now) }
 {
     let mut end = 0;
-    let mut i = 0;
-    while i < text.len() {
-        let byte = text[i];
-        i += 1;
-        if byte == 0 {
+    for (i, byte) in text.iter().enumerate() {
+        if *byte == 0 {
             return end;
         }
-        if byte != 0x20 {
-            end = i;
+        if *byte != 0x20 {
+            end = i + 1;
         }
     }
     end
 }
 
 // Whether the cut of a text's bytes from a place on is empty.
+#[tactic(auto, using(crate::proofs::text::SameLaws::over))]
 fn is_over(text: &[u8], at: usize) -> bool
     ensures { result ≡ same (cut (drop at text.now)) [] }
 {
-    let mut i = at;
-    while i < text.len() {
-        let next = text[i];
-        if next == 0 {
+    let rest = slices::part_at(text, at, text.len());
+    for next in rest {
+        if *next == 0 {
             return true;
         }
-        if next != 0x20 {
+        if *next != 0x20 {
             return false;
         }
-        i += 1;
     }
     true
 }
 
 // Whether two texts have the same cut: where their next bytes differ, only if the cuts of both rests are empty.
+#[tactic(auto, using(crate::proofs::text::SameLaws::alike))]
 pub fn same_cut(a: &[u8], b: &[u8]) -> bool
     ensures { result ≡ same (cut a.now) (cut b.now) }
 {
-    let mut i = 0;
-    while i < a.len() {
-        let one = a[i];
-        if one != numbers::u8_at(b, i) {
+    for (i, one) in a.iter().enumerate() {
+        if *one != numbers::u8_at(b, i) {
             return is_over(a, i) && is_over(b, i);
         }
-        if one == 0 {
+        if *one == 0 {
             return true;
         }
-        i += 1;
     }
-    is_over(b, i)
+    is_over(b, a.len())
 }
 
 // Writes the cut of the text in the `width` bytes at `from` of `source` into the field of `width` bytes at a place,
