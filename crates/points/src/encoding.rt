@@ -41,7 +41,6 @@ fn put_others(room: &mut [u8], format: u8, point: Point)
 }
 
 // Whether a field is too large to encode.
-#[tactic(auto, unfolding(crate::specs::Encoding::large, fields::specs::Checks::fails))]
 fn is_large(format: u8, point: Point) -> bool
     ensures { result ≡ fails (large format point) }
 {

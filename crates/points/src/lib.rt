@@ -118,7 +118,6 @@ fn shared_of(format: u8, s: &[u8]) -> Point
 
 // Whether n bytes are the record length, and that length and the format can be. The last part follows from the others:
 // it shows the compiler that the fields that all formats share are there.
-#[tactic(auto, using(crate::proofs::AnswerLaws::shape_test), unfolding(crate::specs::Formats::layout_of))]
 pub(crate) fn has_shape(format: u8, record_length: u16, n: usize) -> bool
     ensures { result ≡ not (fails (shape format record_length n)) }
 {

@@ -69,7 +69,6 @@ pub fn return_of(format: u8, point: &[u8]) -> u8
 }
 
 // The same in every format.
-#[tactic(auto, unfolding(crate::specs::Raw::stored_of, crate::specs::Raw::stored))]
 pub fn stored_of(point: &[u8]) -> Stored
     ensures { result ≡ stored_of point.now }
 {
