@@ -1,3 +1,5 @@
 pub mod SearchLaws
+pub mod EntryLaws
+pub mod PlaceLaws
 pub mod HalvingLaws
 pub mod KeyReadLaws

@@ -6,25 +6,16 @@ use mathlib.Core.List.{List, [], ◌∷◌, ◌++◌}
 use mathlib.Core.Option.{Option, none, some}
 use Rattle.std.specs.Prelude.{IfSome, Some, None}
 use Rattle.std.specs.Prelude as std
-use Prim.Native.Nat.{ℕ, zero, suc, ◌+◌, ◌*◌, ◌/◌, ◌≤◌, ◌<◌, ◌^◌}
-use lib.ListN.{length, get_or, take, drop, drop_of_length-le, length-drop}
-use Rattle.fields.proofs.ByteLaws.{length-pieces}
-use Rattle.std.proofs.Common.{add-one, drop-cons}
-use Rattle.std.specs.Simd.{first_chunks}
-use native.Mathlib.Omega.{arith}
+use Prim.Native.Nat.{ℕ, ◌+◌, ◌*◌, ◌≤◌, ◌<◌, ◌^◌}
+use lib.ListN.{length}
 use Rattle.fields.specs.Lists.{All}
-use Rattle.fields.specs.Bytes.{Bytes, part, num, pieces}
-use borrow.Author.Tests.{eq-eqb, ne_eqb}
+use Rattle.fields.specs.Bytes.{Bytes}
 use Rattle.fields.proofs.CheckLaws.{then_passes, then_passed, then_fails, none_fails}
 use Rattle.fields.specs.Checks.{first_failing, Verdict, Passes, Fails}
 use Rattle.lasfile.specs.FileChecks.{file_verdict}
-use Rattle.lasfile.specs.HeaderFields.{header_size, record_count}
-use Rattle.lasfile.specs.Records.{size_of, places, counted}
-use Rattle.lasfile.specs.Records as records
-use lib.Seq.{drop-drop}
-use Rattle.geokeys.specs.GeoKeys.{GeoKey, Refused, or_later, first, is_projection, projection_place, payload_at, key_count, directory_checks, key_of, entry_of, entries, answer_if, either, payload_in, directory_of, directory_verdict, entries_in, searched, search_verdict}
 use Rattle.geokeys.specs.Places as refused
 use Rattle.geokeys.specs.Places.{DirectoryAt, Place, place_in, place_if, Searches}
+use Rattle.geokeys.specs.GeoKeys.{GeoKey, Refused, or_later, first, projection_place, payload_at, key_count, directory_checks, entries, answer_if, either, payload_in, directory_of, directory_verdict, entries_in, searched, search_verdict}
 
 module _ {ℓ} {A : Type ℓ} (p : A → Bool) (x : A) (xs : List A) where
   pub first_here : p x ≡ true → first p (x ∷ xs) ≡ some x
@@ -130,80 +121,3 @@ module _ (s : Bytes) where
   pub searched_is : (d : Bytes) → directory_of s ≡ some d → searched s ≡ entries d
   unfolding searched entries_in
   searched_is d e = rw e
-
--- ---- entries, one by one
-
-module _ (key : ℕ) where
-  pub entry_here : (e : Bytes) (es : List Bytes) → num (part 0 2 e) ≡ key → entry_of (e ∷ es) key ≡ some e
-  unfolding entry_of key_of
-  entry_here e es h = first_here _ e es (eq-eqb (num (part 0 2 e)) key h)
-
-  pub entry_later : (e : Bytes) (es : List Bytes) → (num (part 0 2 e) ≡ key → ⊥) → entry_of (e ∷ es) key ≡ entry_of es key
-  unfolding entry_of key_of
-  entry_later e es h = first_later _ e es (ne_eqb (num (part 0 2 e)) key h)
-
-  pub entry_none : entry_of [] key ≡ none
-  unfolding entry_of
-  entry_none = first-none _
-
--- the entry at an index
-module _ (es : List Bytes) (i key : ℕ) (left : i < length es) where
-  in_two : drop i es ≡ get_or es i [] ∷ drop (i + 1) es
-  in_two = rw (add-one, drop-cons es i []) refl
-
-  pub entry_found : num (part 0 2 (get_or es i [])) ≡ key → some (get_or es i []) ≡ entry_of (drop i es) key
-  entry_found h = rw in_two (sym (entry_here key _ _ h))
-
-  pub entry_passed : (num (part 0 2 (get_or es i [])) ≡ key → ⊥) → entry_of (drop (i + 1) es) key ≡ entry_of (drop i es) key
-  entry_passed h = rw in_two (sym (entry_later key _ _ h))
-
-pub entries_passed : (es : List Bytes) (i key : ℕ) → length es ≤ i → none ≡ entry_of (drop i es) key
-entries_passed es i key h = rw (drop_of_length-le) (sym (entry_none key))
-
--- those that a directory has room for, as it is cut
-chunks_are : (n k : ℕ) (s : Bytes) → n ≤ k → take n (first_chunks 8 k s) ≡ pieces n 8 s
-unfolding pieces
-chunks_are zero k s h = refl
-chunks_are (suc n) zero s h = absurd (omega arith)
-chunks_are (suc n) (suc k) s h = ap (λ (es : List Bytes). take 8 s ∷ es) (chunks_are n k (drop 8 s) (omega arith))
-
-pub entries_are : (d : Bytes) (n : ℕ) (behind : Bytes) (all : List Bytes) → n ≡ num (part 6 2 d) → behind ≡ drop 8 d → all ≡ first_chunks 8 (length behind / 8) behind
-    → 8 + 8 * key_count d ≤ length d → take n all ≡ entries d
-unfolding entries key_count
-entries_are d n behind all count b cut room =
-    rw (cut, b, count)
-    (chunks_are (num (part 6 2 d)) (length (drop 8 d) / 8) (drop 8 d) (simp length-drop (omega arith)))
-
-pub length-entries : (d : Bytes) → length (entries d) ≡ num (part 6 2 d)
-unfolding entries key_count
-length-entries d = length-pieces (num (part 6 2 d)) 8 (drop 8 d)
-
--- ---- the counted records, one by one
-
--- the place of the first that is a projection's
-abbrev pub place_among : ℕ → List (ℕ × Bytes) → Option ℕ
-place_among id [] = none
-place_among id (r ∷ rs) = or_later (is_projection r.1 id 0) r.0 (place_among id rs)
-
-first_placed : (s : Bytes) (id n at : ℕ) → first (is_projection s id) (places 2 n at s) ≡ place_among id (records.placed n at (drop at s))
-unfolding first places records.placed is_projection
-first_placed s id zero at = refl
-first_placed s id (suc n) at = rw (drop-drop (size_of 2 (drop at s)) at s) (ap (or_later (is_projection s id at) at) (first_placed s id n (at + size_of 2 (drop at s))))
-
-pub projection_among : (s : Bytes) (id : ℕ) → projection_place s id ≡ place_among id (counted s)
-unfolding projection_place counted
-projection_among s id = first_placed s id (record_count s) (header_size s)
-
-module _ (s : Bytes) (id : ℕ) where
-  module _ (place : ℕ) (b : Bytes) (left rest : List (ℕ × Bytes)) (here : left ≡ (place, b) ∷ rest) (same : place_among id left ≡ place_among id (counted s)) where
-    pub among_here : is_projection b id 0 ≡ true → place_in (Some place) ≡ projection_place s id
-    unfolding place_in or_later
-    among_here h = sym (projection_among s id ∙ rw (← same, here, h) refl)
-
-    pub among_later : is_projection b id 0 ≡ false → place_among id rest ≡ place_among id (counted s)
-    unfolding or_later
-    among_later h = sym (rw (← same, here, h) refl)
-
-  pub among_none : (left : List (ℕ × Bytes)) → left ≡ [] → place_among id left ≡ place_among id (counted s) → place_in None ≡ projection_place s id
-  unfolding place_in
-  among_none left e same = sym (projection_among s id ∙ rw (← same, e) refl)

@@ -2,7 +2,7 @@
 use mathlib.Core.Path.{sym, ap, ◌∙◌}
 use native.Mathlib.Omega.{arith}
 use lib.ListN.{length}
-use Rattle.geokeys.proofs.SearchLaws.{entries_are, length-entries}
+use Rattle.geokeys.proofs.EntryLaws.{entries_are, length-entries}
 use Rattle.geokeys.proofs.entries.Goals as goal
 
 pub slice_bounds-result-end : goal.slice_bounds-result-end

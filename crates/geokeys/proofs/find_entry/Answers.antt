@@ -1,7 +1,7 @@
 -- `geokeys::find_entry` meets its contract. Assumes nothing.
 use mathlib.Core.Path.{sym, ◌∙◌}
 use Rattle.geokeys.specs.Places.{entry_in}
-use Rattle.geokeys.proofs.SearchLaws.{entry_found, entry_passed, entries_passed}
+use Rattle.geokeys.proofs.EntryLaws.{entry_found, entry_passed, entries_passed}
 use Rattle.geokeys.proofs.find_entry.Goals as goal
 
 pub returns-then-number_at-key : goal.returns-then-number_at-key

@@ -1,7 +1,7 @@
 -- `geokeys::find_projection` meets its contract. Assumes nothing.
 use mathlib.Core.Path.{sym, ◌∙◌}
 use Rattle.lasfile.proofs.vlr.PlacedLaws.{place_low}
-use Rattle.geokeys.proofs.SearchLaws.{among_here, among_later, among_none}
+use Rattle.geokeys.proofs.PlaceLaws.{among_here, among_later, among_none}
 use Rattle.geokeys.proofs.find_projection.Goals as goal
 
 pub returns-then-is_projection : goal.returns-then-is_projection

@@ -2,7 +2,7 @@
 -- nothing.
 use Rattle.std.proofs.Common.{◌≡◌}
 use Rattle.lasfile.specs.Records.{placed, counted}
-use Rattle.geokeys.proofs.SearchLaws.{place_among}
+use Rattle.geokeys.proofs.PlaceLaws.{place_among}
 use Rattle.geokeys.proofs.find_projection.Given as goal
 
 abbrev pub invariant-loop-vlr : goal.invariant-loop-vlr
