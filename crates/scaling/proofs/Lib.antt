@@ -1,1 +1,2 @@
 pub mod ScalingLaws
+pub mod Ends

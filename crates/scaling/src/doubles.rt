@@ -4,29 +4,24 @@ ghost use Rattle.std.specs.Float.{binary64};
 ghost use Rattle.std.specs.Float.Ieee.{of_bits, to_bits};
 ghost use Rattle.scaling.specs.Scaling.{coordinate_of, coordinate_bits};
 
-// The double with these bits. Every NaN pattern gives a NaN: `f64::from_bits` is undefined there.
+use std::num::{f64_from_bits_with_nan, f64_to_bits_with_nan};
+
+// The double with these bits. Every NaN pattern gives a NaN.
 pub fn double_of(bits: u64) -> f64
     ensures { result ≡ of_bits binary64 bits }
 {
-    if bits % 0x8000_0000_0000_0000 > 0x7ff0_0000_0000_0000 {
-        0.0 / 0.0
-    } else {
-        f64::from_bits(bits)
-    }
+    f64_from_bits_with_nan(bits)
 }
 
-// The bits of a double. Of a NaN they are 0x7ff8_0000_0000_0000: `f64::to_bits` is undefined there.
+// The bits of a double. Of a NaN they are 0x7ff8_0000_0000_0000.
 pub fn bits_of(x: f64) -> u64
     ensures { result ≡ to_bits binary64 x }
 {
-    if x != x {
-        0x7ff8_0000_0000_0000
-    } else {
-        f64::to_bits(x)
-    }
+    f64_to_bits_with_nan(x)
 }
 
 // Stored value times scale, rounded once, plus offset, rounded once.
+#[tactic(auto, unfolding(crate::specs::Scaling::coordinate_of))]
 pub fn coordinate(stored: i32, scale: f64, offset: f64) -> f64
     ensures { result ≡ coordinate_of stored scale offset }
 {
@@ -34,6 +29,7 @@ pub fn coordinate(stored: i32, scale: f64, offset: f64) -> f64
 }
 
 // The coordinate, with scale, offset and result by their bits.
+#[tactic(auto, unfolding(crate::specs::Scaling::coordinate_bits))]
 pub fn coordinate_bits(stored: i32, scale: u64, offset: u64) -> u64
     ensures { result ≡ coordinate_bits stored (of_bits binary64 scale) (of_bits binary64 offset) }
 {

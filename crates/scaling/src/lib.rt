@@ -8,6 +8,7 @@ ghost use Rattle.scaling.specs.Scaling.{double_at, scaling_of, good_scale, good_
 
 use crate::doubles::{bits_of, coordinate};
 
+#[tactic(auto, unfolding(crate::specs::Scaling::double_at))]
 fn double_at(s: &[u8], at: usize) -> f64
     ensures { result ≡ double_at s.now at }
 {
@@ -23,12 +24,14 @@ const LOWEST_OFFSET: f64 = -1099511627776.0;
 // 2^40
 const HIGHEST_OFFSET: f64 = 1099511627776.0;
 
+#[tactic(auto, using(crate::proofs::Ends::ends), unfolding(crate::specs::Scaling::good_scale, crate::specs::Scaling::within))]
 fn good_scale(x: f64) -> bool
     ensures { result ≡ good_scale x }
 {
     (LOWEST_SCALE <= x) & (x <= HIGHEST_SCALE)
 }
 
+#[tactic(auto, using(crate::proofs::Ends::ends), unfolding(crate::specs::Scaling::good_offset, crate::specs::Scaling::within))]
 fn good_offset(x: f64) -> bool
     ensures { result ≡ good_offset x }
 {
@@ -36,7 +39,7 @@ fn good_offset(x: f64) -> bool
 }
 
 // The scales and offsets of a header.
-#[derive(Clone, Copy)]
+#[derive(Clone, Copy, Debug, PartialEq)]
 pub struct Scaling {
     pub x_scale: f64,
     pub y_scale: f64,
@@ -46,7 +49,7 @@ pub struct Scaling {
     pub z_offset: f64,
 }
 
-#[derive(Clone, Copy)]
+#[derive(Clone, Copy, Debug, PartialEq)]
 pub struct Coordinates {
     pub x: f64,
     pub y: f64,
@@ -54,7 +57,7 @@ pub struct Coordinates {
 }
 
 // The stored values that the bounds are the coordinates of, in the header's order.
-#[derive(Clone, Copy)]
+#[derive(Clone, Copy, Debug, PartialEq, Eq)]
 pub struct Extremes {
     pub max_x: i32,
     pub min_x: i32,
@@ -64,8 +67,9 @@ pub struct Extremes {
     pub min_z: i32,
 }
 
-// The bits of the bounds, in the header's order.
-#[derive(Clone, Copy)]
+// The bits of the bounds, in the header's order. No `Extremes<T>` with the struct above: each type has one use, and the
+// two names say which of a stored value and a coordinate's bits is meant.
+#[derive(Clone, Copy, Debug, Default, PartialEq, Eq)]
 pub struct Bounds {
     pub max_x: u64,
     pub min_x: u64,
@@ -77,6 +81,7 @@ pub struct Bounds {
 
 impl Scaling {
     // The record in a header; bytes past the end count as 0.
+    #[tactic(auto, using(crate::proofs::ScalingLaws::scaling_at))]
     pub fn read(header: &[u8]) -> Scaling
         ensures { result ≡ scaling_of header.now }
     {
@@ -91,6 +96,7 @@ impl Scaling {
     }
 
     // Whether all six are in their ranges: number 10 is given where they are not. A NaN is in none.
+    #[tactic(auto, unfolding(crate::specs::Scaling::good_scaling))]
     pub fn is_good(self) -> bool
         ensures { result ≡ good_scaling self }
     {
@@ -103,6 +109,7 @@ impl Scaling {
     }
 
     // The coordinates of a point's three stored values.
+    #[tactic(auto, unfolding(crate::specs::Scaling::coordinates_of))]
     pub fn coordinates(self, x: i32, y: i32, z: i32) -> Coordinates
         ensures { result ≡ coordinates_of self x y z }
     {
@@ -114,6 +121,7 @@ impl Scaling {
     }
 
     // The bounds by their bits: the coordinates of the largest stored values, and of the smallest.
+    #[tactic(auto, unfolding(crate::specs::Scaling::bounds_of, crate::specs::Scaling::coordinates_of, crate::specs::Scaling::coordinate_bits))]
     pub fn bounds_of(self, e: Extremes) -> Bounds
         ensures { result ≡ bounds_of self e }
     {
