@@ -13,7 +13,6 @@ use Rattle.fields.specs.Bytes.{Bytes}
 use Rattle.fields.proofs.CheckLaws.{then_passes, then_passed, then_fails, none_fails}
 use Rattle.fields.specs.Checks.{first_failing, Verdict, Passes, Fails}
 use Rattle.lasfile.specs.FileChecks.{file_verdict}
-use Rattle.geokeys.specs.Places as refused
 use Rattle.geokeys.specs.Places.{DirectoryAt, Place, place_in, place_if, Searches}
 use Rattle.geokeys.specs.GeoKeys.{GeoKey, Refused, or_later, first, projection_place, payload_at, key_count, directory_checks, entries, answer_if, either, payload_in, directory_of, directory_verdict, entries_in, searched, search_verdict}
 
@@ -105,18 +104,6 @@ module _ (s : Bytes) where
         decide : (v : Verdict) → search_verdict s ≡ v → Searches s (place_if v at)
         decide Passes v_is = unfold place_if in (v_is, is, low)
         decide (Fails n) v_is = unfold place_if in v_is
-
-  -- what is known where a directory is searched
-  pub searched_at : (r : DirectoryAt) (at : ℕ) → Searches s r → r ≡ Place at
-      → (search_verdict s ≡ Passes) × (directory_of s ≡ some (payload_at s at)) × (at < 2 ^ 50)
-  searched_at r at h e = subst (Searches s) e h
-
-  pub refused_with : (r : DirectoryAt) (n : ℕ) → Searches s r → r ≡ refused.Refused n → search_verdict s ≡ Fails n
-  refused_with r n h e = subst (Searches s) e h
-
-  pub room_for_entries : (d : Bytes) → search_verdict s ≡ Passes → directory_of s ≡ some d → 8 + 8 * key_count d ≤ length d
-  unfolding search_verdict directory_verdict
-  room_for_entries d e is = room_for_keys d (rw is at (then_passed _ _ e))
 
   pub searched_is : (d : Bytes) → directory_of s ≡ some d → searched s ≡ entries d
   unfolding searched entries_in
