@@ -5,7 +5,7 @@ mod declared;
 mod modules;
 
 pub use calls::with_helpers;
-pub use declared::{Clause, Owner, Signature};
+pub use declared::{Clause, Signature};
 
 use crate::files::{self, Result};
 use crate::listed;
@@ -17,8 +17,8 @@ pub struct Function {
     pub in_crate: String,
     /// The modules that it stands in.
     pub module: Vec<String>,
-    /// The type or the trait that it is a method of.
-    pub owner: Option<Owner>,
+    /// The type that it is a method of.
+    pub owner: Option<String>,
     pub name: String,
     /// Open to callers outside its crate.
     pub public: bool,
@@ -34,25 +34,20 @@ pub struct Function {
 impl Function {
     /// Its path in its crate, as the edits name it.
     pub fn path(&self) -> String {
-        let owner = self.owner.as_ref().map(Owner::name);
         let steps: Vec<&str> = self
             .module
             .iter()
-            .chain(&owner)
-            .chain([&self.name])
+            .chain(&self.owner)
             .map(String::as_str)
             .collect();
-        steps.join("::")
+        [&steps[..], &[self.name.as_str()]].concat().join("::")
     }
 
     /// Its name in docs/PROMISES.md: `las_..` for C, `Type::method`, else `crate::module::function`.
     pub fn listed_as(&self) -> String {
         match &self.owner {
             _ if self.exported || self.is_for_c() => self.name.clone(),
-            Some(owner) => match &owner.of_type {
-                Some(of_type) => format!("{of_type}::{}", self.name),
-                None => format!("{}::{}", owner.name(), self.name),
-            },
+            Some(owner) => format!("{owner}::{}", self.name),
             None => format!("{}::{}", self.in_crate, self.path()),
         }
     }
@@ -109,32 +104,7 @@ pub fn functions(root: &Path, in_crate: &str) -> Result<Vec<Function>> {
             });
         }
     }
-    Ok(with_traits(found))
-}
-
-/// A method of a trait that is open to callers is so at each type, under the trait's contract where it has none of its
-/// own. What a trait declares without a body is no function.
-fn with_traits(mut found: Vec<Function>) -> Vec<Function> {
-    let is_declared = |one: &Function| {
-        let owner = one.owner.as_ref();
-        one.body.is_empty() && owner.is_some_and(|owner| owner.of_type.is_none())
-    };
-    let declared: Vec<Function> = found.extract_if(.., |one| is_declared(one)).collect();
-    for one in &mut found {
-        let of_trait = one.owner.as_ref().and_then(|owner| owner.of_trait.as_ref());
-        let in_trait = declared.iter().find(|other| {
-            let owner = other.owner.as_ref();
-            other.name == one.name
-                && owner.is_some_and(|owner| owner.public && owner.of_trait.as_ref() == of_trait)
-        });
-        if let Some(in_trait) = in_trait {
-            one.public = true;
-            if one.clauses.is_empty() {
-                one.clauses = in_trait.clauses.clone();
-            }
-        }
-    }
-    found
+    Ok(found)
 }
 
 #[cfg(test)]
@@ -176,29 +146,6 @@ mod tests {
                 "shut::inner::b",
                 "shut::a"
             ]
-        );
-    }
-
-    #[test]
-    fn a_method_of_a_public_trait_is_public_at_each_type() {
-        let sample = Sample::new(&[(
-            "crates/c/src/lib.rt",
-            "pub trait A {\n    fn f()\n        ensures { a };\n}\ntrait B {\n    fn g();\n}\n\
-                impl A for T {\n    fn f() {}\n}\nimpl B for T {\n    fn g() {}\n}\nimpl C for T {\n    fn h() {}\n}\n",
-        )]);
-        let found = functions(sample.root(), "c").unwrap();
-        let said: Vec<(String, String, bool, bool)> = found
-            .iter()
-            .map(|f| (f.path(), f.listed_as(), f.public, f.has("ensures")))
-            .collect();
-        let wanted = [
-            ("TA::f", "T::f", true, true),
-            ("TB::g", "T::g", false, false),
-            ("TC::h", "T::h", false, false),
-        ];
-        assert_eq!(
-            said,
-            wanted.map(|(path, listed, a, b)| (path.to_string(), listed.to_string(), a, b))
         );
     }
 

@@ -1,6 +1,6 @@
 //! What a function calls in its crate.
 
-use super::{Function, Owner};
+use super::Function;
 use crate::scan::{self, Token};
 use std::collections::BTreeSet;
 
@@ -45,8 +45,8 @@ fn calls(body: &str) -> Vec<Call<'_>> {
 
 /// Whether a call may mean a function: by the type or the module that it stands in, or by its name alone.
 fn means(call: &Call, other: &Function) -> bool {
-    let owner = other.owner.as_ref().map(Owner::name);
-    let inside = owner
+    let inside = other
+        .owner
         .as_ref()
         .or(other.module.last())
         .map_or("", String::as_str);

@@ -22,29 +22,10 @@ pub struct Signature {
     pub result: String,
 }
 
-/// What a method stands in: an `impl TYPE`, an `impl TRAIT for TYPE`, or a `trait TRAIT` itself.
-#[derive(Clone, Debug, PartialEq)]
-pub struct Owner {
-    /// None in the trait itself.
-    pub of_type: Option<String>,
-    pub of_trait: Option<String>,
-    /// Whether the trait is `pub`, where it is the trait itself.
-    pub public: bool,
-}
-
-impl Owner {
-    /// TYPE, TYPE and TRAIT in one, as rt says them, or TRAIT.
-    pub fn name(&self) -> String {
-        [&self.of_type, &self.of_trait]
-            .map(|part| part.as_deref().unwrap_or_default())
-            .concat()
-    }
-}
-
 /// A function as its text declares it.
 #[derive(Debug)]
 pub struct Declared {
-    pub owner: Option<Owner>,
+    pub owner: Option<String>,
     pub name: String,
     pub public: bool,
     pub exported: bool,
@@ -72,45 +53,34 @@ pub fn functions_in(text: &str) -> Vec<Declared> {
         .collect()
 }
 
-/// The tokens of each `impl TYPE { .. }`, `impl TRAIT for TYPE { .. }` and `trait TRAIT { .. }`.
-fn owners(tokens: &[Token]) -> Vec<(Range<usize>, Owner)> {
+/// The tokens of each `impl TYPE { .. }` and `impl TRAIT for TYPE { .. }`, and the name that its functions go by: TYPE,
+/// or TYPE and TRAIT in one, as rt says them.
+fn owners(tokens: &[Token]) -> Vec<(Range<usize>, String)> {
     let mut found = Vec::new();
     for (at, three) in tokens.windows(3).enumerate() {
         if !three[1].is_word() || three[2].text != "{" {
             continue;
         }
-        let name = Some(three[1].text.to_string());
-        let owner = match three[0].text {
-            "impl" => Owner {
-                of_type: name,
-                of_trait: None,
-                public: false,
-            },
-            "for" => {
-                let of_trait = Some(tokens[at - 1].text.to_string());
-                Owner {
-                    of_type: name,
-                    of_trait,
-                    public: false,
-                }
-            }
-            "trait" => {
-                let public = is_public(&tokens[..at]);
-                Owner {
-                    of_type: None,
-                    of_trait: name,
-                    public,
-                }
-            }
+        let of_trait = match three[0].text {
+            "impl" => "",
+            "for" => tokens[at - 1].text,
             _ => continue,
         };
-        found.push((at..scan::past_bracket(tokens, at + 2), owner));
+        found.push((
+            at..scan::past_bracket(tokens, at + 2),
+            format!("{}{of_trait}", three[1].text),
+        ));
     }
     found
 }
 
 /// The function whose `fn` is the token at `at`.
-fn declared(code: &str, tokens: &[Token], at: usize, owners: &[(Range<usize>, Owner)]) -> Declared {
+fn declared(
+    code: &str,
+    tokens: &[Token],
+    at: usize,
+    owners: &[(Range<usize>, String)],
+) -> Declared {
     let exported = scan::ends_with(&tokens[..at], &["extern", "\"C\""]);
     let first = if exported { at - 2 } else { at };
     let public = is_public(&tokens[..first]);
@@ -140,19 +110,6 @@ fn next_of(tokens: &[Token], at: usize, wanted: &[&str]) -> usize {
         .skip(at)
         .position(|token| wanted.contains(&token.text));
     found.map_or(tokens.len(), |steps| at + steps)
-}
-
-/// The number of the first token behind a result that begins at `at`: a clause, a block, or the `;` of a function that
-/// has neither. The `;` of an array's type is none.
-fn past_result(tokens: &[Token], mut at: usize) -> usize {
-    while let Some(token) = tokens.get(at) {
-        at = match token.text {
-            "requires" | "ensures" | "{" | ";" => return at,
-            "[" => scan::past_bracket(tokens, at),
-            _ => at + 1,
-        };
-    }
-    at
 }
 
 /// The text of some tokens on one line.
@@ -194,7 +151,7 @@ fn signature(code: &str, tokens: &[Token], at: usize) -> (Signature, usize) {
         false => opens,
     };
     let inside = tokens.get(opens + 1..closed.saturating_sub(1));
-    let next = past_result(tokens, closed);
+    let next = next_of(tokens, closed, &["requires", "ensures", "{"]);
     let signature = Signature {
         head: head(code, tokens, at),
         parameters: between_commas(code, inside.unwrap_or_default()),
@@ -233,13 +190,14 @@ fn contract(code: &str, tokens: &[Token], mut at: usize) -> (Vec<Clause>, usize)
     (clauses, at)
 }
 
-/// The text of the block that begins at `at`, with its braces; none where the function has only a contract.
+/// The text of the next block from `at` on, with its braces.
 fn body(code: &str, tokens: &[Token], at: usize) -> String {
-    if tokens.get(at).is_none_or(|token| token.text != "{") {
+    let opens = next_of(tokens, at, &["{"]);
+    if opens == tokens.len() {
         return String::new();
     }
-    let closes = scan::past_bracket(tokens, at) - 1;
-    code[tokens[at].at..tokens[closes].end()].to_string()
+    let closes = scan::past_bracket(tokens, opens) - 1;
+    code[tokens[opens].at..tokens[closes].end()].to_string()
 }
 
 #[cfg(test)]
@@ -344,27 +302,17 @@ mod tests {
     fn methods_have_their_type() {
         let found = functions_in(
             "impl A {\n    pub fn f() { if a { b } }\n    fn g() {}\n}\nfn h() {}\nimpl B { fn k() {} }\n\
-            impl fmt::Display for B { fn l() { for a in b {} } }\npub trait T {\n    fn m()\n        ensures { a };\n}",
+            impl fmt::Display for B { fn l() { for a in b {} } }",
         );
-        let name = |one: &Declared| one.owner.as_ref().map(Owner::name);
-        let owners: Vec<Option<String>> = found.iter().map(name).collect();
-        let wanted = [
-            Some("A"),
-            Some("A"),
-            None,
-            Some("B"),
-            Some("BDisplay"),
-            Some("T"),
-        ];
-        assert_eq!(owners, wanted.map(|owner| owner.map(str::to_string)));
+        let owners: Vec<Option<&str>> = found.iter().map(|one| one.owner.as_deref()).collect();
+        assert_eq!(
+            owners,
+            [Some("A"), Some("A"), None, Some("B"), Some("BDisplay")]
+        );
     }
 
     #[test]
     fn a_function_without_a_body_has_none() {
         assert_eq!(only("fn f()").body, "");
-        let declared = only("fn f() -> [u8; 4]\n    ensures { a };\n    ghost b: { c };");
-        assert_eq!(declared.body, "");
-        assert_eq!(declared.signature.result, "-> [u8; 4]");
-        assert_eq!(declared.clauses.len(), 1);
     }
 }
