@@ -3,12 +3,15 @@
 mod calls;
 mod declared;
 mod modules;
+mod owners;
 
 pub use calls::with_helpers;
 pub use declared::{Clause, Signature};
+pub use owners::Owner;
 
 use crate::files::{self, Result};
 use crate::listed;
+use crate::scan;
 use std::path::{Path, PathBuf};
 
 /// A function of a crate.
@@ -17,15 +20,19 @@ pub struct Function {
     pub in_crate: String,
     /// The modules that it stands in.
     pub module: Vec<String>,
-    /// The type that it is a method of.
-    pub owner: Option<String>,
+    /// The type or the trait that it is a function of.
+    pub owner: Option<Owner>,
     pub name: String,
+    /// The names of its parameters between `<` and `>`, and of those of its `impl`.
+    pub generics: Vec<String>,
     /// Open to callers outside its crate.
     pub public: bool,
     /// `extern "C"`, for other languages under its own name.
     pub exported: bool,
     pub signature: Signature,
     pub clauses: Vec<Clause>,
+    /// Whether it is more than what a trait asks for, `fn f();`.
+    pub is_made: bool,
     pub body: String,
     pub source: PathBuf,
     pub line: usize,
@@ -37,7 +44,7 @@ impl Function {
         let steps: Vec<&str> = self
             .module
             .iter()
-            .chain(&self.owner)
+            .chain(self.owner.as_ref().map(|owner| &owner.name))
             .map(String::as_str)
             .collect();
         [&steps[..], &[self.name.as_str()]].concat().join("::")
@@ -47,7 +54,7 @@ impl Function {
     pub fn listed_as(&self) -> String {
         match &self.owner {
             _ if self.exported || self.is_for_c() => self.name.clone(),
-            Some(owner) => format!("{owner}::{}", self.name),
+            Some(owner) => format!("{}::{}", owner.name, self.name),
             None => format!("{}::{}", self.in_crate, self.path()),
         }
     }
@@ -67,6 +74,11 @@ impl Function {
         self.clauses.iter().any(|clause| clause.kind == kind)
     }
 
+    /// Whether its code has the name of a constant, other than the one that it is.
+    pub fn reads(&self, constant: &str) -> bool {
+        constant != self.name && scan::has_word(&self.body, constant)
+    }
+
     /// Where it stands, and its name.
     pub fn place(&self) -> String {
         format!("{}:{}: {}", self.source.display(), self.line, self.name)
@@ -77,9 +89,17 @@ impl Function {
 /// and a static library over it exports them.
 const FOR_C: &str = "las_";
 
-/// Each function of a crate. A program's are open to nobody, and those of a static library to C alone: what they
-/// promise is promised by the function of the library that each calls.
+/// Each function of a crate that has a body, and each constant of an `impl` of a trait, which rt proves as one. A
+/// program's are open to nobody, and those of a static library to C alone: what they promise is promised by the
+/// function of the library that each calls.
 pub fn functions(root: &Path, in_crate: &str) -> Result<Vec<Function>> {
+    let mut found = declared(root, in_crate)?;
+    found.retain(|function| function.is_made);
+    Ok(found)
+}
+
+/// Each function of a crate, with those that its traits ask for.
+pub fn declared(root: &Path, in_crate: &str) -> Result<Vec<Function>> {
     let top = files::crate_folder(in_crate).join("src");
     let is_static = listed::is_static(root, in_crate)?;
     let sources = files::with_suffix(root, &top, "rt")?;
@@ -94,10 +114,12 @@ pub fn functions(root: &Path, in_crate: &str) -> Result<Vec<Function>> {
                 module: module.clone(),
                 owner: one.owner,
                 name: one.name,
+                generics: one.generics,
                 public: open && one.public && !is_static,
                 exported: one.exported,
                 signature: one.signature,
                 clauses: one.clauses,
+                is_made: one.is_made,
                 body: one.body,
                 source: source.clone(),
                 line: one.line,

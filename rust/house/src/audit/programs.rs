@@ -33,7 +33,7 @@ fn in_body(program: &WrongProgram, change: &Change, function: &Function) -> bool
 /// Whether a function's code has one of some constants.
 fn reads_any(function: &Function, constants: &BTreeSet<String>) -> bool {
     let mut constants = constants.iter();
-    constants.any(|constant| scan::has_word(&function.body, constant))
+    constants.any(|constant| function.reads(constant))
 }
 
 /// Whether a change is of a function's own code, or of a constant that it reads.
@@ -89,7 +89,7 @@ pub fn meeting(repository: &Repository) -> Result<Vec<String>> {
         for constant in one.constants(&repository.root)? {
             for other in repository.programs_of(&one.in_crate) {
                 let together = one.label == other.label && !std::ptr::eq(one, other);
-                let reads = |function: &Function| scan::has_word(&function.body, &constant);
+                let reads = |function: &Function| function.reads(&constant);
                 if together && repository.function_of(other).is_some_and(reads) {
                     let (edit, name, reader) = (one.edit(), &one.name, &other.name);
                     found.push(format!(
@@ -225,5 +225,34 @@ mod tests {
             ["c/wrong_3: f changes ONE, which h reads"]
         );
         assert!(with_program(&(one + &edit("g", "    9", "8"))).is_empty());
+    }
+
+    #[test]
+    fn wrong_programs_of_traits_are_found_by_the_names_of_rt() {
+        let with = |text: &str| {
+            let source = format!(
+                "{SOURCE}impl From<Result<bool, B>> for las_k {{\n    fn from() {{\n        7\n    }}\n}}\n\
+                impl<'a> N for C<'a> {{\n    const SIZE: u8 = 4;\n}}\nimpl N for D {{\n    const SIZE: u8 = 5;\n}}\n\
+                trait N {{\n    fn n()\n        ensures {{ a }};\n}}\n"
+            );
+            let count = 2 + text.matches("# ").count();
+            let paper = PROMISES.replace("2 wrong", &format!("{count} wrong"));
+            let paper = paper.replace("2 edits", "3 edits");
+            objections(&[(LIB, &source), (THIRD, text), (PAPER, &paper)])
+        };
+        let from = edit("Las_kFromResultBoolB::from", "        7", "        8");
+        let size =
+            |of: &str, old: &str| edit(of, &format!("const SIZE: u8 = {old}"), "const A: u8 = 6");
+        assert!(with(&(from + &size("CN::SIZE", "4") + &size("DN::SIZE", "5"))).is_empty());
+        assert_eq!(
+            with(&size("CN::SIZE", "5")),
+            ["c/wrong_3: CN::SIZE: wrong: changes something else"]
+        );
+        for name in ["Las_kFrom::from", "N::n", "N::SIZE"] {
+            assert_eq!(
+                with(&edit(name, "        7", "        8")),
+                [format!("c/wrong_3: {name} is no function")]
+            );
+        }
     }
 }

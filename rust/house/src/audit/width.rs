@@ -4,7 +4,7 @@ use super::promises::PAPER;
 use super::repository::Repository;
 use crate::files::{self, Result};
 use crate::scan;
-use crate::sources::Function;
+use crate::sources::{self, Function};
 use std::fs;
 use std::os::unix::fs::PermissionsExt;
 use std::path::Path;
@@ -153,8 +153,10 @@ pub fn too_wide(repository: &Repository) -> Result<Vec<String>> {
     for path in files::below(root, Path::new(""), &LEFT_OUT)? {
         found.extend(in_file(root, &path)?);
     }
-    for function in repository.functions() {
-        found.extend(in_contract(root, function)?);
+    for (in_crate, _) in &repository.crates {
+        for function in sources::declared(root, in_crate)? {
+            found.extend(in_contract(root, &function)?);
+        }
     }
     Ok(found)
 }
@@ -291,5 +293,15 @@ mod tests {
         let source = SOURCE.replace("next a", &format!("next\n{}", "a".repeat(121)));
         let wanted = "crates/c/src/lib.rt:4: `ensures` of f of 123 columns";
         assert_eq!(objections(&[("crates/c/src/lib.rt", &source)]), [wanted]);
+    }
+
+    #[test]
+    fn a_wide_attribute_is_not_objected_to_and_a_wide_contract_of_a_trait_is() {
+        let wide = "a".repeat(121);
+        let attributes = format!("{SOURCE}#[tactic(auto, unfolding({wide}))]\nimpl A for B {{}}\n");
+        assert!(objections(&[("crates/c/src/lib.rt", &attributes)]).is_empty());
+        let asked = format!("{SOURCE}trait A {{\n    fn f()\n        ensures {{ {wide} }};\n}}\n");
+        let wanted = "crates/c/src/lib.rt:9: `ensures` of f of 142 columns";
+        assert_eq!(objections(&[("crates/c/src/lib.rt", &asked)]), [wanted]);
     }
 }

@@ -9,7 +9,7 @@ const DIFFERS: &str = "; differs where ";
 fn named(line: &str) -> Option<(&str, &str)> {
     let rest = line.strip_prefix("# ")?;
     let (name, what) =
-        rest.split_at(rest.find(|c: char| !c.is_ascii_alphanumeric() && !"_:.-".contains(c))?);
+        rest.split_at(rest.find(|c: char| !c.is_ascii_alphanumeric() && !"_:.+-".contains(c))?);
     let (name, what) = (name.strip_suffix(':')?, what.strip_prefix(' ')?);
     (!name.is_empty() && !what.is_empty()).then_some((name, what))
 }
@@ -105,6 +105,7 @@ mod tests {
     fn names() {
         assert_eq!(named("# a::b: what: more"), Some(("a::b", "what: more")));
         assert_eq!(named("# m::Laws.a-b: what"), Some(("m::Laws.a-b", "what")));
+        assert_eq!(named("# A+u8::f: what"), Some(("A+u8::f", "what")));
         for line in [
             "# Wrong programs of a: all",
             "#a: b",

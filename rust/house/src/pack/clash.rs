@@ -61,9 +61,9 @@ impl<'a> Clashes<'a> {
 
     /// Whether the first changes a constant that the second's function reads.
     fn reaches(&self, one: usize, other: usize) -> bool {
-        let body = &self.grounds[other].body;
+        let (body, own) = (&self.grounds[other].body, self.programs[other].function());
         let mut constants = self.grounds[one].constants.iter();
-        constants.any(|constant| scan::has_word(body, constant))
+        constants.any(|constant| constant != own && scan::has_word(body, constant))
     }
 
     /// Whether the second's proof may rest on what the first changes, for all that can be said file by file.

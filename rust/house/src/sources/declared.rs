@@ -1,7 +1,7 @@
 //! The functions that a source's text declares.
 
+use super::owners::{self, Block, Owner};
 use crate::scan::{self, Token};
-use std::ops::Range;
 
 /// A `requires` or an `ensures`, its lines, and its text on one line.
 #[derive(Clone, Debug, PartialEq)]
@@ -25,12 +25,16 @@ pub struct Signature {
 /// A function as its text declares it.
 #[derive(Debug)]
 pub struct Declared {
-    pub owner: Option<String>,
+    pub owner: Option<Owner>,
     pub name: String,
+    /// The names of its parameters between `<` and `>`, and of those of its `impl`.
+    pub generics: Vec<String>,
     pub public: bool,
     pub exported: bool,
     pub signature: Signature,
     pub clauses: Vec<Clause>,
+    /// Whether it is more than what a trait asks for, `fn f();`.
+    pub is_made: bool,
     pub body: String,
     pub line: usize,
 }
@@ -44,60 +48,86 @@ pub fn is_public(before: &[Token]) -> bool {
 pub fn functions_in(text: &str) -> Vec<Declared> {
     let code = scan::without_comments(text);
     let tokens = scan::tokens(&code);
-    let owners = owners(&tokens);
+    let blocks = owners::blocks(&tokens);
     let begins =
         |at: &usize| tokens[*at].text == "fn" && tokens.get(at + 1).is_some_and(Token::is_name);
-    (0..tokens.len())
-        .filter(begins)
-        .map(|at| declared(&code, &tokens, at, &owners))
-        .collect()
+    let functions = (0..tokens.len()).filter(begins);
+    let functions = functions.map(|at| declared(&code, &tokens, at, &blocks));
+    let fulfilling = blocks.iter().filter(|block| block.fulfils);
+    let constants = fulfilling.flat_map(|block| constants(&code, &tokens, block));
+    functions.chain(constants).collect()
 }
 
-/// The tokens of each `impl TYPE { .. }` and `impl TRAIT for TYPE { .. }`, and the name that its functions go by: TYPE,
-/// or TYPE and TRAIT in one, as rt says them.
-fn owners(tokens: &[Token]) -> Vec<(Range<usize>, String)> {
-    let mut found = Vec::new();
-    for (at, three) in tokens.windows(3).enumerate() {
-        if !three[1].is_word() || three[2].text != "{" {
-            continue;
+/// The constants of an `impl` of a trait, which rt proves as functions; each is its own body.
+fn constants(code: &str, tokens: &[Token], block: &Block) -> Vec<Declared> {
+    let opens = next_of(tokens, block.inside.start, &["{"]);
+    let (mut found, mut at) = (Vec::new(), opens + 1);
+    while at + 1 < block.inside.end {
+        let past = past_item(tokens, at);
+        let item = &tokens[at..past.min(block.inside.end)];
+        if let [first, name, colon, ..] = item
+            && (first.text, colon.text) == ("const", ":")
+        {
+            let kind = &item[3..next_of(item, 3, &["="])];
+            found.push(Declared {
+                owner: Some(block.owner.clone()),
+                name: name.text.to_string(),
+                generics: block.parameters.clone(),
+                public: false,
+                exported: false,
+                signature: Signature {
+                    head: String::new(),
+                    parameters: Vec::new(),
+                    result: text_of(code, kind),
+                },
+                clauses: Vec::new(),
+                is_made: true,
+                body: text_of(code, item),
+                line: scan::line_at(code, first.at),
+            });
         }
-        let of_trait = match three[0].text {
-            "impl" => "",
-            "for" => tokens[at - 1].text,
-            _ => continue,
-        };
-        found.push((
-            at..scan::past_bracket(tokens, at + 2),
-            format!("{}{of_trait}", three[1].text),
-        ));
+        at = past;
     }
     found
 }
 
+/// The number of the token behind the next `;` or block from `at` on.
+fn past_item(tokens: &[Token], mut at: usize) -> usize {
+    while let Some(token) = tokens.get(at) {
+        at = match token.text {
+            ";" => return at + 1,
+            "(" | "[" | "{" => scan::past_bracket(tokens, at),
+            _ => at + 1,
+        };
+        let ends = token.text == "{" && tokens.get(at).is_none_or(|next| next.text != ";");
+        if ends {
+            return at;
+        }
+    }
+    at
+}
+
 /// The function whose `fn` is the token at `at`.
-fn declared(
-    code: &str,
-    tokens: &[Token],
-    at: usize,
-    owners: &[(Range<usize>, String)],
-) -> Declared {
+fn declared(code: &str, tokens: &[Token], at: usize, blocks: &[Block]) -> Declared {
     let exported = scan::ends_with(&tokens[..at], &["extern", "\"C\""]);
     let first = if exported { at - 2 } else { at };
     let public = is_public(&tokens[..first]);
     let near = scan::ends_with(&tokens[..first], &["pub", "(", "crate", ")"]);
     let begins = first - usize::from(public) - if near { 4 } else { 0 };
-    let (signature, next) = signature(code, tokens, at);
+    let (mut generics, opens) = owners::parameters(tokens, at + 2);
+    let (signature, next) = signature(code, tokens, at, opens);
     let (clauses, next) = contract(code, tokens, next);
+    let block = blocks.iter().rev().find(|one| one.inside.contains(&at));
+    generics.extend(block.into_iter().flat_map(|one| one.parameters.clone()));
     Declared {
-        owner: owners
-            .iter()
-            .find(|(inside, _)| inside.contains(&at))
-            .map(|(_, owner)| owner.clone()),
+        owner: block.map(|one| one.owner.clone()),
         name: tokens[at + 1].text.to_string(),
+        generics,
         public,
         exported,
         signature,
         clauses,
+        is_made: tokens.get(next).is_none_or(|token| token.text != ";"),
         body: body(code, tokens, next),
         line: scan::line_at(code, tokens[begins].at),
     }
@@ -143,19 +173,22 @@ fn between_commas(code: &str, tokens: &[Token]) -> Vec<String> {
     texts.filter(|text| !text.is_empty()).collect()
 }
 
-/// The signature of the function whose `fn` is the token at `at`, and the token behind it.
-fn signature(code: &str, tokens: &[Token], at: usize) -> (Signature, usize) {
-    let opens = next_of(tokens, at, &["("]);
+/// The signature of the function whose `fn` is the token at `at` and whose parameters open from `opens` on, and the
+/// token behind it.
+fn signature(code: &str, tokens: &[Token], at: usize, opens: usize) -> (Signature, usize) {
+    let opens = next_of(tokens, opens, &["("]);
     let closed = match opens < tokens.len() {
         true => scan::past_bracket(tokens, opens),
         false => opens,
     };
     let inside = tokens.get(opens + 1..closed.saturating_sub(1));
-    let next = next_of(tokens, closed, &["requires", "ensures", "{"]);
+    let ends = ["where", "requires", "ensures", "{", ";"];
+    let result = owners::next_outside(tokens, closed, &ends);
+    let next = owners::next_outside(tokens, result, &ends[1..]);
     let signature = Signature {
         head: head(code, tokens, at),
         parameters: between_commas(code, inside.unwrap_or_default()),
-        result: text_of(code, &tokens[closed..next]),
+        result: text_of(code, &tokens[closed..result]),
     };
     (signature, next)
 }
@@ -190,10 +223,10 @@ fn contract(code: &str, tokens: &[Token], mut at: usize) -> (Vec<Clause>, usize)
     (clauses, at)
 }
 
-/// The text of the next block from `at` on, with its braces.
+/// The text of the next block from `at` on, with its braces, if one comes before a `;`.
 fn body(code: &str, tokens: &[Token], at: usize) -> String {
-    let opens = next_of(tokens, at, &["{"]);
-    if opens == tokens.len() {
+    let opens = next_of(tokens, at, &["{", ";"]);
+    if tokens.get(opens).is_none_or(|token| token.text == ";") {
         return String::new();
     }
     let closes = scan::past_bracket(tokens, opens) - 1;
@@ -302,13 +335,95 @@ mod tests {
     fn methods_have_their_type() {
         let found = functions_in(
             "impl A {\n    pub fn f() { if a { b } }\n    fn g() {}\n}\nfn h() {}\nimpl B { fn k() {} }\n\
-            impl fmt::Display for B { fn l() { for a in b {} } }",
+            impl fmt::Display for B { fn l() { for a in b {} } }\n#[tactic(auto, unfolding(a::b))]\n\
+            impl<'a> Iterator for C<'a>\nwhere\n    D: E,\n{\n    type Item = u8;\n\n    \
+            ghost next_gives = { λ s. s };\n\n    #[tactic(auto)]\n    fn next(&mut self) -> Option<u8> { None }\n}\n\
+            fn m() -> impl A { fn n() {} }\n",
         );
-        let owners: Vec<Option<&str>> = found.iter().map(|one| one.owner.as_deref()).collect();
+        let owners: Vec<Option<&str>> = found
+            .iter()
+            .map(|one| one.owner.as_ref().map(|owner| &owner.name[..]))
+            .collect();
         assert_eq!(
             owners,
-            [Some("A"), Some("A"), None, Some("B"), Some("BDisplay")]
+            [
+                Some("A"),
+                Some("A"),
+                None,
+                Some("B"),
+                Some("BDisplay"),
+                Some("CIterator"),
+                None,
+                None
+            ]
         );
+        assert_eq!(found[5].signature.head, "#[tactic(auto)]");
+        assert!(!found[5].public);
+    }
+
+    #[test]
+    fn functions_of_a_trait_are_made_where_they_have_a_body() {
+        let found = functions_in(
+            "pub trait A {\n    ghost SIZE: { ℕ };\n    const SIZE: usize;\n    fn f() -> [u8; 4]\n        \
+            ensures { result ≡ a };\n    fn g(&self);\n    fn h(&self) -> u8\n    {\n        1\n    }\n}\n\
+            fn k() { 2 }\n",
+        );
+        let made: Vec<(&str, bool, &str)> = found
+            .iter()
+            .map(|one| (&one.name[..], one.is_made, &one.body[..]))
+            .collect();
+        assert_eq!(
+            made,
+            [
+                ("f", false, ""),
+                ("g", false, ""),
+                ("h", true, "{\n        1\n    }"),
+                ("k", true, "{ 2 }")
+            ]
+        );
+        assert_eq!(found[0].signature.result, "-> [u8; 4]");
+        assert_eq!(found[0].clauses.len(), 1);
+        assert_eq!(found[1].clauses, []);
+        assert!(found[..3].iter().all(|one| !one.public));
+        assert_eq!(found[2].owner.as_ref().unwrap().name, "A");
+    }
+
+    #[test]
+    fn constants_of_a_trait_are_functions() {
+        let found = functions_in(
+            "trait A {\n    const B: u8;\n}\nconst B: u8 = 0;\nimpl<'a> A for C<'a> {\n    ghost B = { 1 };\n\n    \
+            ghost const_ = { x };\n    const B: [u8; 2] = [1; 2];\n\n    fn f() {\n        const D: u8 = 3;\n    }\n\n    \
+            const E: u8 = { 2 };\n}\nimpl C<'_> {\n    const F: u8 = 4;\n}\n",
+        );
+        let names: Vec<(&str, &str, usize)> = found
+            .iter()
+            .map(|one| (&one.name[..], &one.body[..], one.line))
+            .collect();
+        let f = "{\n        const D: u8 = 3;\n    }";
+        assert_eq!(
+            names,
+            [
+                ("f", f, 11),
+                ("B", "const B: [u8; 2] = [1; 2];", 9),
+                ("E", "const E: u8 = { 2 };", 15)
+            ]
+        );
+        assert_eq!(found[1].owner.as_ref().unwrap().name, "CA");
+        assert_eq!(found[1].signature.result, "[u8; 2]");
+    }
+
+    #[test]
+    fn a_function_of_any_type() {
+        let found = functions_in(
+            "impl<A> B<A> {\n    fn f<S: Fn(u8) -> u8, const N: usize>(&self, s: &S, a: [u8; N]) -> [u8; N]\n    where\n\
+                    S: C<u8>,\n    requires { a }\n    ensures { b }\n    {\n        s(a)\n    }\n}\n",
+        );
+        let one = &found[0];
+        assert_eq!(one.generics, ["S", "N", "A"]);
+        assert_eq!(one.signature.parameters, ["&self", "s: &S", "a: [u8; N]"]);
+        assert_eq!(one.signature.result, "-> [u8; N]");
+        assert_eq!(one.clauses.len(), 2);
+        assert_eq!(one.body, "{\n        s(a)\n    }");
     }
 
     #[test]
