@@ -5,7 +5,7 @@
 //! function, which passes where nothing is objected to it, and one for each rule about all else.
 //!
 //! Of a public function (`pub`, in modules that are `pub`, in a library; a program and a static library have none, and
-//! an `impl` of a trait neither):
+//! an `impl` of a trait neither, but for what a `pub` trait of the crate asks for, which is open at each type):
 //! - it has no `requires`, since a function open to callers takes any input;
 //! - it has an `ensures`, since none is left unstated;
 //! - docs/PROMISES.md lists it: in a table whose first column is headed 'Function', the first cell is the function

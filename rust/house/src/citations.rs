@@ -44,15 +44,15 @@ pub fn rows(text: &str) -> Vec<Row<'_>> {
     found
 }
 
-/// The crate of each public function, by its name in the papers.
-pub struct Owners(BTreeMap<String, String>);
+/// The crate of each public function and its path there, by its name in the papers.
+pub struct Owners(BTreeMap<String, (String, String)>);
 
 impl Owners {
     pub fn of<'a>(functions: impl Iterator<Item = &'a Function>) -> Owners {
         let public = functions.filter(|function| function.public);
         Owners(
             public
-                .map(|f| (f.listed_as(), f.in_crate.clone()))
+                .map(|f| (f.listed_as(), (f.in_crate.clone(), f.path())))
                 .collect(),
         )
     }
@@ -74,12 +74,14 @@ pub struct Citation<'a> {
 impl Citation<'_> {
     /// Whether it is that wrong program, whatever the edit that it stands in.
     pub fn is_of(&self, program: &WrongProgram, owners: &Owners) -> bool {
-        let path = format!("::{}::{}", program.in_crate, program.name);
         let is_own = match (self.row, self.within) {
             (None, _) => OF_STATEMENTS.contains(&program.in_crate.as_str()),
-            (Some(row), _) if owners.0.get(row) != Some(&program.in_crate) => false,
-            (_, Some(private)) => program.function() == private,
-            (Some(row), None) => path.ends_with(&format!("::{row}")),
+            (Some(row), within) => match (owners.0.get(row), within) {
+                (Some((in_crate, _)), _) if *in_crate != program.in_crate => false,
+                (Some(_), Some(private)) => program.function() == private,
+                (Some((_, path)), None) => program.name == *path,
+                (None, _) => false,
+            },
         };
         is_own && self.what == program.what && self.input == program.differs
     }

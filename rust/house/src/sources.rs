@@ -54,6 +54,7 @@ impl Function {
     pub fn listed_as(&self) -> String {
         match &self.owner {
             _ if self.exported || self.is_for_c() => self.name.clone(),
+            Some(owner) if self.public => format!("{}::{}", owner.of_type, self.name),
             Some(owner) => format!("{}::{}", owner.name, self.name),
             None => format!("{}::{}", self.in_crate, self.path()),
         }
@@ -91,11 +92,26 @@ const FOR_C: &str = "las_";
 
 /// Each function of a crate that has a body, and each constant of an `impl` of a trait, which rt proves as one. A
 /// program's are open to nobody, and those of a static library to C alone: what they promise is promised by the
-/// function of the library that each calls.
+/// function of the library that each calls. What a trait that is open asks for is open at each type, under the trait's
+/// contract where it has none of its own.
 pub fn functions(root: &Path, in_crate: &str) -> Result<Vec<Function>> {
-    let mut found = declared(root, in_crate)?;
-    found.retain(|function| function.is_made);
-    Ok(found)
+    let found = declared(root, in_crate)?;
+    let (mut made, asked): (Vec<Function>, Vec<Function>) =
+        found.into_iter().partition(|function| function.is_made);
+    for one in &mut made {
+        let of_trait = one.owner.as_ref().and_then(|owner| owner.of_trait.as_ref());
+        let in_trait = asked.iter().find(|other| {
+            let owner = other.owner.as_ref().map(|owner| &owner.name);
+            other.public && other.name == one.name && owner == of_trait
+        });
+        if let Some(in_trait) = in_trait {
+            one.public = true;
+            if one.clauses.is_empty() {
+                one.clauses = in_trait.clauses.clone();
+            }
+        }
+    }
+    Ok(made)
 }
 
 /// Each function of a crate, with those that its traits ask for.
@@ -168,6 +184,29 @@ mod tests {
                 "shut::inner::b",
                 "shut::a"
             ]
+        );
+    }
+
+    #[test]
+    fn what_a_public_trait_asks_for_is_public_at_each_type() {
+        let sample = Sample::new(&[(
+            "crates/c/src/lib.rt",
+            "pub trait A {\n    fn f()\n        ensures { a };\n}\ntrait B {\n    fn g();\n}\n\
+            impl A for T {\n    fn f() {}\n}\nimpl B for T {\n    fn g() {}\n}\nimpl<'a> C for T<'a> {\n    fn h() {}\n}\n",
+        )]);
+        let found = functions(sample.root(), "c").unwrap();
+        let said: Vec<(String, String, bool, bool)> = found
+            .iter()
+            .map(|f| (f.path(), f.listed_as(), f.public, f.has("ensures")))
+            .collect();
+        let wanted = [
+            ("TA::f", "T::f", true, true),
+            ("TB::g", "TB::g", false, false),
+            ("TC::h", "TC::h", false, false),
+        ];
+        assert_eq!(
+            said,
+            wanted.map(|(path, listed, a, b)| (path.to_string(), listed.to_string(), a, b))
         );
     }
 

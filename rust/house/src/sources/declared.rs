@@ -123,7 +123,7 @@ fn declared(code: &str, tokens: &[Token], at: usize, blocks: &[Block]) -> Declar
         owner: block.map(|one| one.owner.clone()),
         name: tokens[at + 1].text.to_string(),
         generics,
-        public,
+        public: public || block.is_some_and(|one| one.is_open),
         exported,
         signature,
         clauses,
@@ -384,7 +384,7 @@ mod tests {
         assert_eq!(found[0].signature.result, "-> [u8; 4]");
         assert_eq!(found[0].clauses.len(), 1);
         assert_eq!(found[1].clauses, []);
-        assert!(found[..3].iter().all(|one| !one.public));
+        assert!(found[..3].iter().all(|one| one.public) && !found[3].public);
         assert_eq!(found[2].owner.as_ref().unwrap().name, "A");
     }
 

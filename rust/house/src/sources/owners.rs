@@ -30,6 +30,8 @@ pub struct Block {
     pub inside: Range<usize>,
     /// Whether it is an `impl` of a trait.
     pub fulfils: bool,
+    /// Whether it is a trait that is `pub`.
+    pub is_open: bool,
     pub owner: Owner,
     /// The names of its parameters, `A` and `N` of `impl<'a, A: B, const N: usize>`.
     pub parameters: Vec<String>,
@@ -208,6 +210,7 @@ fn of_impl(tokens: &[Token], at: usize) -> Option<Block> {
     Some(Block {
         inside: at..scan::past_bracket(tokens, opens),
         fulfils: owner.of_trait.is_some(),
+        is_open: false,
         owner,
         parameters,
     })
@@ -224,6 +227,7 @@ fn of_declared_trait(tokens: &[Token], at: usize) -> Option<Block> {
     Some(Block {
         inside: at..scan::past_bracket(tokens, opens),
         fulfils: false,
+        is_open: scan::ends_with(&tokens[..at], &["pub"]),
         owner: Owner {
             name: name.text.to_string(),
             of_type: name.text.to_string(),
