@@ -3,7 +3,7 @@ ghost use Rattle.std.specs.Prelude.{◌≡◌, ◌≤◌, ◌<◌, ◌&&◌, eqb
 ghost use Rattle.sheet.specs.Keeping.{is_box};
 ghost use Rattle.sheet.specs.Boxes.{BoxesOf, no_edges, no_boxes, edges_with, with_box, with_line, box_count, in_axis, along, in_box_at, in_first, in_any, in_boxes, keeps_by};
 
-use crate::class_table;
+use crate::{Kind, Lines, class_table};
 use points::raw;
 
 // The lows and the highs of boxes on one axis, those of box j at place j, so that one edge of several boxes is read at
@@ -69,10 +69,11 @@ impl Edges {
     }
 }
 
+#[tactic(auto, unfolding(crate::specs::Keeping::is_box))]
 fn is_box(line: &[u8]) -> bool
     ensures { result ≡ is_box line.now }
 {
-    fields::numbers::u8_at(line, crate::KIND) == crate::BOX
+    matches!(Kind::of(line), Some(Kind::Region))
 }
 
 // Puts the edges of a line's box behind those of the others.
@@ -103,14 +104,8 @@ pub fn boxes_of(sheet: &[u8]) -> Boxes
     ensures { BoxesOf sheet.now result }
 {
     let mut boxes = Boxes::default();
-    let mut rest = sheet;
-    let mut left = crate::MOST_LINES;
-    while (0 < rest.len()) & (0 < left) {
-        let line = crate::first_line(rest);
+    for line in Lines::new(sheet) {
         take_line(line, &mut boxes);
-        let next = crate::after_line(rest);
-        rest = next;
-        left -= 1;
     }
     boxes
 }

@@ -18,7 +18,7 @@ use fields::refusal::Refusal;
 use fields::{signed, slices};
 
 // The places of a line's fields: its kind, the classes of a kind 1 line, and the six numbers of a kind 3 line.
-pub(crate) const KIND: usize = 2;
+const KIND: usize = 2;
 
 pub(crate) const LOWEST: usize = 3;
 
@@ -26,11 +26,8 @@ pub(crate) const HIGHEST: usize = 4;
 
 const EDGES: usize = 3;
 
-// The kind of a line that is a box.
-pub(crate) const BOX: u8 = 3;
-
 // A sheet has at most so many lines.
-pub(crate) const MOST_LINES: u8 = 64;
+const MOST_LINES: u8 = 64;
 
 // The kind of a line: what it keeps.
 #[derive(Clone, Copy, Debug, PartialEq, Eq)]
@@ -78,14 +75,14 @@ fn line_length(rest: &[u8]) -> usize
 }
 
 // The line that bytes begin with, or as much of it as there is.
-pub(crate) fn first_line(rest: &[u8]) -> &[u8]
+fn first_line(rest: &[u8]) -> &[u8]
     ensures { result.now ≡ first_line rest.now }
 {
     slices::part_at(rest, 0, line_length(rest))
 }
 
 // What follows the line that bytes begin with.
-pub(crate) fn after_line(rest: &[u8]) -> &[u8]
+fn after_line(rest: &[u8]) -> &[u8]
     ensures { result.now ≡ after_line rest.now }
 {
     slices::part_at(rest, line_length(rest), rest.len())
@@ -98,7 +95,6 @@ pub(crate) struct Lines<'a> {
     left: u8,
 }
 
-#[tactic(auto, unfolding(crate::specs::Sheet::lines))]
 impl<'a> Lines<'a> {
     pub(crate) fn new(sheet: &'a [u8]) -> Lines<'a>
         ensures { lines_from result.left result.rest.now ≡ lines sheet.now }

@@ -1,7 +1,7 @@
 -- How boxes are read, apart from any code: the edges of one box on an axis, one line of a sheet, and all of them.
 -- Assumes nothing.
 use mathlib.Core.Path.{◌≡◌, refl, sym, ap, ◌∙◌}
-use Prim.Native.Nat.{ℕ, zero, suc, ◌+◌, ◌-◌, ◌≤◌, ◌<◌}
+use Prim.Native.Nat.{ℕ, zero, suc, ◌+◌, ◌≤◌, ◌<◌}
 use native.Mathlib.Omega.{arith}
 use mathlib.Core.Bool.{Bool, true, false, cond}
 use mathlib.Core.List.{List, [], ◌∷◌, ◌++◌, append-nil, append_assoc, foldl, map}
@@ -13,11 +13,11 @@ use borrow.Author.Tests.{eqb-true, eqb-false}
 use Rattle.fields.specs.Lists.{cons_if, kept}
 use Rattle.fields.specs.Bytes.{Bytes}
 use Rattle.fields.proofs.ListLaws.{cons_if-append}
-use Rattle.sheet.specs.Sheet.{edge, low, high, first_line, after_line, lines, lines_from}
+use Rattle.sheet.specs.Sheet.{edge, low, high, lines}
 use Rattle.sheet.specs.Keeping.{is_box}
 use Rattle.sheet.specs.declared.boxes.Boxes.{Boxes}
 use Rattle.sheet.specs.Boxes.{box_lines, edges_on, Numbered, BoxesOf, no_boxes, edges_with, with_box, counted, with_line}
-use Rattle.sheet.proofs.LineLaws.{lines_from_lem, lines_more, lines_full, lines_end, at_most_64}
+use Rattle.sheet.proofs.LineLaws.{at_most_64}
 
 -- ---- one number more behind those of other lines
 
@@ -147,31 +147,31 @@ unfolding with_box
 by_kind_few true l b = omega arith
 by_kind_few false l b = omega arith
 
--- `left` lines of the rest are still to look at
-pub record Reading (sheet rest : Bytes) (left : ℕ) (b : Boxes) : Type 0 where
-  pub all : foldl with_line b (lines_from left rest) ≡ foldl with_line no_boxes (lines sheet)
-  pub few : b.count + left ≤ 64
+-- these lines are still to look at
+pub record Reading (sheet : Bytes) (left : List Bytes) (b : Boxes) : Type 0 where
+  pub all : foldl with_line b left ≡ foldl with_line no_boxes (lines sheet)
+  pub few : b.count + length left ≤ 64
 
-pub read_begun : (sheet : Bytes) → Reading sheet sheet 64 no_boxes
-read_begun sheet = record { all = ap (foldl with_line no_boxes) (sym (lines_from_lem sheet)); few = omega arith }
+pub read_begun : (sheet : Bytes) (left : List Bytes) → left ≡ lines sheet → Reading sheet left no_boxes
+read_begun sheet left e = rw e record { all = refl; few = omega (arith, at_most_64 sheet) }
 
-module _ (sheet rest : Bytes) (left : ℕ) (b : Boxes) (c : Reading sheet rest left b) where
-  pub read_next : 0 < left → 0 < length rest → (l : Bytes) → l ≡ first_line rest → (r : Bytes) → r ≡ after_line rest
-      → Reading sheet r (left - 1) (with_line b l)
-  unfolding with_line
-  read_next more some l first r e =
-      record {
-        all = rw (first, e) (sym (ap (foldl with_line b) (lines_more left rest more some)) ∙ c.all);
-        few = omega (arith, c.few, by_kind_few (is_box l) l b);
-      }
+module _ (sheet : Bytes) (left : List Bytes) (b : Boxes) (c : Reading sheet left b) where
+  module _ (l : Bytes) (behind : List Bytes) (split : left ≡ l ∷ behind) where
+    one_less : length left ≡ length behind + 1
+    one_less = rw split (omega arith)
 
-  ended : lines_from left rest ≡ [] → BoxesOf sheet b
-  ended none =
+    pub room : b.count < 64
+    room = omega (arith, c.few, one_less)
+
+    pub read_next : Reading sheet behind (with_line b l)
+    unfolding with_line
+    read_next =
+        record {
+          all = sym (ap (foldl with_line b) split) ∙ c.all;
+          few = omega (arith, c.few, one_less, by_kind_few (is_box l) l b);
+        }
+
+  pub read_ended : left ≡ [] → BoxesOf sheet b
+  read_ended none =
       let e : b ≡ foldl with_line no_boxes (lines sheet) = sym (ap (foldl with_line b) none) ∙ c.all in
       rw e (read_all sheet)
-
-  pub read_ended : length rest ≤ 0 → BoxesOf sheet b
-  read_ended h = ended (lines_end left rest h)
-
-  pub read_full : left ≡ 0 → BoxesOf sheet b
-  read_full h = ended (lines_full left rest h)
