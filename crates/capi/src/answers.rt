@@ -1,5 +1,5 @@
-// Answers of the library as structs of numbers with C's layout: the refusal's number first, 0 where it is accepted. On a
-// refusal the other numbers are 0, but for the length that an output would need.
+// Answers of the library as structs of numbers with C's layout: the refusal's number first, 0 where it is accepted. On
+// a refusal the other numbers are 0, but for the length that an output would need.
 ghost use Rattle.std.specs.Prelude.{◌≡◌};
 ghost use Rattle.fields.specs.Checks.{number_of};
 ghost use Rattle.fields.specs.Refusals.{verdict_of, by_number};

@@ -1,5 +1,5 @@
-// The public part of a file, what a sheet leaves of it, the released file and the cutting list: the definitions stand in
-// specs/. What is code here is what a release answers, and a line of a list.
+// The public part of a file, what a sheet leaves of it, the released file and the cutting list: the definitions stand
+// in specs/. What is code here is what a release answers, and a line of a list.
 #![tactic(auto)]
 
 ghost use Rattle.std.specs.Prelude.{◌≡◌, Some};

@@ -1,5 +1,5 @@
--- What the loop of `sheet::check_sheet` keeps: the lines that are left are those of the rest, and the sheet's verdict is
--- that of the rest. Assumes nothing.
+-- What the loop of `sheet::check_sheet` keeps: the lines that are left are those of the rest, and the sheet's verdict
+-- is that of the rest. Assumes nothing.
 use Rattle.sheet.specs.Sheet.{lines_from}
 use Rattle.sheet.proofs.WalkLaws.{Walk}
 use Rattle.sheet.proofs.check_sheet.Given as goal
