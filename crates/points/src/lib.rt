@@ -127,7 +127,8 @@ pub(crate) fn has_shape(format: u8, record_length: u16, n: usize) -> bool
 }
 
 // The fields of a point record, or 12. It is inlined with `shared_of`, so that the fields go to where its caller has
-// them and not through memory first.
+// them and not through memory first; the shared fields are read before the others, which takes less time than behind
+// them.
 #[inline(always)]
 pub fn decode(format: u8, record_length: u16, bytes: &[u8]) -> Result<Point, Refusal>
     ensures { by_number Fields Refused result ≡ decoded format record_length bytes.now }
@@ -136,13 +137,15 @@ pub fn decode(format: u8, record_length: u16, bytes: &[u8]) -> Result<Point, Ref
         return Err(Refusal::BadShape);
     }
     let layout = layouts::layout_of(format);
+    let shared = shared_of(format, bytes);
+    let gps_time = time_in(bytes, layout.time);
     let colour = colour_in(bytes, layout.colour);
     let point = Point {
-        gps_time: time_in(bytes, layout.time),
+        gps_time,
         red: colour.red,
         green: colour.green,
         blue: colour.blue,
-        ..shared_of(format, bytes)
+        ..shared
     };
     Ok(point)
 }

@@ -15,8 +15,8 @@ returns-then-not-has_shape c =
     let a = c.args in
     sym (refused a.format a.record_length a.bytes.now _ c.has_shape.ensures c.if-not-has_shape.true-raw)
 
-pub time_in-requires : goal.time_in-requires
-time_in-requires c at e =
+pub time_in-gps_time-requires : goal.time_in-gps_time-requires
+time_in-gps_time-requires c at e =
     let a = c.args in
     time_there a.format (length a.bytes.now) (shape_found _ _ _ _ c.has_shape.ensures c.if-not-has_shape.false-raw) c.layout_of-layout.result c.layout_of-layout.ensures at e
 
@@ -33,15 +33,15 @@ returns c =
     let s = a.bytes.now in
     let time = ap (λ (l : Layout). l.time) c.layout_of-layout.ensures in
     let colour = ap (λ (l : Layout). l.colour) c.layout_of-layout.ensures in
-    let q = c.shared_of.result in
+    let q = c.shared_of-shared.result in
     let told = c.struct_told-4-1.given in
     ap Fields
-    (with_others f s q _ _ _ _ _ _ _ _ c.shared_of.ensures
+    (with_others f s q _ _ _ _ _ _ _ _ c.shared_of-shared.ensures
     (to_z-of_z w32 q.x (record { sfits = told.0.1 }))
     (to_z-of_z w32 q.y (record { sfits = told.1.0.1 }))
     (to_z-of_z w32 q.z (record { sfits = told.1.1.0.1 }))
     (to_z-of_z w8 q.scan_angle (record { sfits = told.1.1.1.1.1.1.1.1.1.0.1 }))
-    (c.time_in.ensures ∙ ap (λ (k : Option ℕ). number_in 8 k 0 s) time)
+    (c.time_in-gps_time.ensures ∙ ap (λ (k : Option ℕ). number_in 8 k 0 s) time)
     (c.colour_in-colour.ensures.0 ∙ ap (λ (k : Option ℕ). number_in 2 k 0 s) colour)
     (c.colour_in-colour.ensures.1 ∙ ap (λ (k : Option ℕ). number_in 2 k 2 s) colour)
     (c.colour_in-colour.ensures.2 ∙ ap (λ (k : Option ℕ). number_in 2 k 4 s) colour))
