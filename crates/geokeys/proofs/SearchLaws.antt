@@ -105,6 +105,10 @@ module _ (s : Bytes) where
         decide Passes v_is = unfold place_if in (v_is, is, low)
         decide (Fails n) v_is = unfold place_if in v_is
 
+  pub room_for_entries : (d : Bytes) → search_verdict s ≡ Passes → directory_of s ≡ some d → 8 + 8 * key_count d ≤ length d
+  unfolding search_verdict directory_verdict
+  room_for_entries d e is = room_for_keys d (rw is at (then_passed _ _ e))
+
   pub searched_is : (d : Bytes) → directory_of s ≡ some d → searched s ≡ entries d
   unfolding searched entries_in
   searched_is d e = rw e
