@@ -1,2 +1,1 @@
 pub mod ItemLaws
-mod WritingIn

@@ -54,13 +54,3 @@ finished_file s n points records out =
     let zeroed : Bytes = zeroed_from n out in
     sets zeroed 0
     (head_bytes s (totals_of s (tally_of (format s) (points_of points (record_length s) (drop start zeroed))) records start))
-
-abbrev pub AnswerFits : Bytes → Answer → ℕ → Type 0
-AnswerFits s (Released n points records) room = FinishFits s n points room
-AnswerFits s (Short n) room = Unit {0}
-AnswerFits s (Refused n) room = Unit {0}
-
-unfoldable pub finished : Bytes → Answer → Bytes → Bytes
-finished s (Released n points records) out = finished_file s n points records out
-finished s (Short n) out = out
-finished s (Refused n) out = out

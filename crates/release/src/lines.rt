@@ -1,16 +1,8 @@
 // The lines of a lent list, one at a time.
-ghost use Rattle.std.specs.Prelude.{◌≡◌, ◌<◌, length, get_or, set};
+ghost use Rattle.std.specs.Prelude.{◌≡◌, ◌<◌, length, set};
 ghost use Rattle.publicpart.specs.Cutting.{span};
 
 use publicpart::Span;
-
-// The line of that number, from 0.
-pub(crate) fn line_at(list: &[Span], i: usize) -> Span
-    requires { i < length list.now }
-    ensures { result ≡ get_or list.now i (span 0 0) }
-{
-    list[i]
-}
 
 // Puts a line at that number.
 pub(crate) fn put_line(list: &mut [Span], i: usize, place: u64, size: u64)

@@ -1,41 +1,14 @@
 // Writes what the lines of a list name: records with their headers, and points.
-ghost use Rattle.std.specs.Prelude.{◌≡◌, ◌+◌, ◌-◌, ◌^◌, ◌≤◌, ◌<◌, length};
+ghost use Rattle.std.specs.Prelude.{◌≡◌, ◌+◌, ◌-◌, ◌≤◌, length};
 ghost use Rattle.std.proofs.lemmas.List.Edits.{sets};
 ghost use Rattle.lasfile.specs.Records.{front_size};
-ghost use Rattle.publicpart.specs.Answers.{taken};
 ghost use Rattle.publicpart.specs.Cutting.{named};
-ghost use Rattle.release.specs.Writing.{lines_in, writing_of, record_from, item_bytes, writing_after, ItemsFit, with_items};
+ghost use Rattle.release.specs.Writing.{record_from, records_named, points_named, ItemsFit, with_items};
 
-use crate::{lines, vlrs};
+use crate::vlrs;
 use fields::{copying, numbers, slices};
 use lasfile::{header, vlr};
 use publicpart::{Released, Span};
-
-// Where the writing stands: line k comes next, and goes to the place `to`. The first `records` of the lines are for
-// payloads. `more` says that there is a line k.
-#[derive(Clone, Copy)]
-pub struct Writing {
-    pub more: bool,
-    pub k: usize,
-    pub to: usize,
-    pub records: usize,
-    pub lines: usize,
-}
-
-// Where the writing begins: directly after the header.
-fn begin(released: Released) -> Writing
-    requires { lines_in (taken released) < 2 ^ 64 }
-    ensures { result ≡ writing_of (taken released) }
-{
-    let lines = released.records + released.points;
-    Writing {
-        more: 0 < lines,
-        k: 0,
-        to: header::HEADER_BLOCK,
-        records: released.records,
-        lines,
-    }
-}
 
 // The place of a record, from that of its payload.
 fn record_place(payload: usize) -> usize
@@ -70,35 +43,38 @@ fn write_point(file: &[u8], line: Span, out: &mut [u8], to: usize) -> usize
     point.len()
 }
 
-// Writes what line k names to where the writing stands, and says where it stands then.
-fn write_line(file: &[u8], line: Span, t: Writing, out: &mut [u8]) -> Writing
-    requires { (t.k < t.lines)
-        × (t.to + length (item_bytes file.now t.records t.k line) ≤ length out.old) }
-    ensures { (result ≡ writing_after t (length (item_bytes file.now t.records t.k line)))
-        × (out.new
-        ≡ sets out.old t.to (item_bytes file.now t.records t.k line)) }
+// Writes the records that lines name one after the other, from a place on, and says where they end.
+#[tactic(auto, using(crate::proofs::writing::ItemLaws::writing))]
+fn write_records(file: &[u8], list: &[Span], out: &mut [u8], from: usize) -> usize
+    requires { from + length (records_named file.now list.now) ≤ length out.old }
+    ensures { (result ≡ from + length (records_named file.now list.now))
+        × (out.new ≡ sets out.old from (records_named file.now list.now)) }
 {
-    let written = if t.k < t.records {
-        write_record(file, line, out, t.to)
-    } else {
-        write_point(file, line, out, t.to)
-    };
-    Writing {
-        more: t.k + 1 < t.lines,
-        k: t.k + 1,
-        to: t.to + written,
-        records: t.records,
-        lines: t.lines,
+    let mut to = from;
+    for line in list {
+        to += write_record(file, *line, out, to);
+    }
+    to
+}
+
+// Writes the points that lines name one after the other, from a place on.
+#[tactic(auto, using(crate::proofs::writing::ItemLaws::writing))]
+fn write_points(file: &[u8], list: &[Span], out: &mut [u8], from: usize)
+    requires { from + length (points_named file.now list.now) ≤ length out.old }
+    ensures { out.new ≡ sets out.old from (points_named file.now list.now) }
+{
+    let mut to = from;
+    for line in list {
+        to += write_point(file, *line, out, to);
     }
 }
 
-// Writes what the lines of a list name one after the other, directly after the header.
+// Writes what the lines of a list name one after the other, directly after the header: first records, then points.
 pub(crate) fn write_lines(file: &[u8], list: &[Span], released: Released, out: &mut [u8])
-    requires { ItemsFit file.now list.now (taken released) (length out.old) }
-    ensures { out.new ≡ with_items file.now list.now (taken released) out.old }
+    requires { ItemsFit file.now list.now released (length out.old) }
+    ensures { out.new ≡ with_items file.now list.now released out.old }
 {
-    let mut t = begin(released);
-    while t.more {
-        t = write_line(file, lines::line_at(list, t.k), t, out);
-    }
+    let (records, behind) = list.split_at(released.records);
+    let end = write_records(file, records, out, header::HEADER_BLOCK);
+    write_points(file, &behind[..released.points], out, end);
 }

@@ -6,8 +6,8 @@ use native.Mathlib.Nat.{eq-zero-or-pos}
 use native.Mathlib.Omega.{arith}
 use mathlib.Core.Logic.{◌⊎◌, inl, inr}
 use mathlib.Core.List.{List, [], ◌∷◌, ◌++◌, map, append_assoc}
-use lib.ListN.{length, take, drop, length-drop}
-use lib.Seq.{take_all}
+use lib.ListN.{length, take, drop, get_or, length-drop, length-append}
+use lib.Seq.{sets, take_all, length-sets}
 use borrow.Author.Tests.{lt-ltb, le-ltb}
 use Rattle.fields.specs.Lists.{kept}
 use Rattle.fields.specs.Bytes.{Bytes, part, join}
@@ -17,9 +17,14 @@ use Rattle.lasfile.specs.HeaderFields.{header_size, record_count}
 use Rattle.publicpart.specs.Public.{sheet_keeps, public_of}
 use Rattle.publicpart.proofs.PublicLaws.{contents_records, public_records}
 use Rattle.publicpart.specs.declared.Span.{Span}
-use Rattle.publicpart.specs.Cutting.{named, record_named, payload_lines, record_lines, point_lines, cutting_lines}
+use Rattle.publicpart.specs.declared.Released.{Released}
+use Rattle.publicpart.specs.Cutting.{span, named, record_named, payload_lines, record_lines, point_lines}
 use Rattle.publicpart.proofs.CuttingLaws.{payload_records, point_lines_name, length-record_lines}
-use Rattle.release.specs.Writing.{record_from, item_bytes, items_from}
+use Rattle.release.specs.Writing.{record_from, records_named, points_named, items}
+use Rattle.std.proofs.Common.{drop-cons}
+use Rattle.std.proofs.lemmas.Grind.{common_steps}
+use Rattle.fields.proofs.StoreLaws.{sets-append}
+use native.Mathlib.Numerals.{add-one}
 
 pub record_from_lem : (s : Bytes) (l : Span) → record_from s l ≡ record_bytes 2 (record_of 2 (part (l.place - front_size 2) (front_size 2 + l.length) s))
 unfolding record_from record_named
@@ -37,40 +42,49 @@ part_least at w n m s e = go (eq-zero-or-pos (n - length s))
     go (inl k) = let f : m ≡ n = omega arith in rw f
     go (inr k) = all m (omega arith) ∙ sym (all n (omega arith))
 
--- a line for a payload, and one for a point
-pub item_record : (s : Bytes) (r k : ℕ) (l : Span) → k < r → item_bytes s r k l ≡ record_from s l
-item_record s r k l h = rw (lt-ltb k r h)
+-- ---- lines one after the other
 
-pub item_point : (s : Bytes) (r k : ℕ) (l : Span) → r ≤ k → item_bytes s r k l ≡ named s l
-item_point s r k l h = rw (le-ltb k r h)
+pub records_next : (s : Bytes) (ls : List Span) (i : ℕ) → i < length ls
+    → records_named s (drop i ls) ≡ record_from s (get_or ls i (span 0 0)) ++ records_named s (drop (i + 1) ls)
+unfolding records_named join
+records_next s ls i h = rw (add-one, drop-cons ls i (span 0 0) h) refl
 
--- ---- all of them
+pub points_next : (s : Bytes) (ls : List Span) (i : ℕ) → i < length ls
+    → points_named s (drop i ls) ≡ named s (get_or ls i (span 0 0)) ++ points_named s (drop (i + 1) ls)
+unfolding points_named join
+points_next s ls i h = rw (add-one, drop-cons ls i (span 0 0) h) refl
+
+pub records_none : (s : Bytes) → records_named s [] ≡ []
+unfolding records_named join
+records_none s = refl
+
+pub points_none : (s : Bytes) → points_named s [] ≡ []
+unfolding points_named join
+points_none s = refl
+
+pub ruleset writing = (common_steps, records_next, points_next, records_none, points_none, sets-append, length-sets, length-append)
+
+-- the records of the first lines, and the points of those behind them
+module _ (s : Bytes) (list : List Span) (r : Released) where
+  pub length-items : length (items s list r) ≡ length (records_named s (take r.records list)) + length (points_named s (take r.points (drop r.records list)))
+  unfolding items
+  length-items = length-append (records_named s (take r.records list)) (points_named s (take r.points (drop r.records list)))
+
+  pub in_two : (out : Bytes) (at : ℕ) → sets (sets out at (records_named s (take r.records list))) (at + length (records_named s (take r.records list))) (points_named s (take r.points (drop r.records list)))
+      ≡ sets out at (items s list r)
+  unfolding items
+  in_two out at = sym (sets-append out at (records_named s (take r.records list)) (points_named s (take r.points (drop r.records list))))
+
+-- ---- all that a cutting list names
 
 module _ (s : Bytes) where
-  items_points : (r k : ℕ) (ls : List Span) → r ≤ k → items_from s r k ls ≡ join (map (named s) ls)
-  unfolding items_from join
-  items_points r k [] h = refl
-  items_points r k (l ∷ ls) h = rw (item_point s r k l h, items_points r (suc k) ls (omega arith))
-
-  -- lines for payloads, and lines for points behind them
-  items_both : (k : ℕ) (rs ps : List Span) → items_from s (k + length rs) k (rs ++ ps) ≡ join (map (record_from s) rs) ++ join (map (named s) ps)
-  unfolding items_from join
-  items_both k [] ps = items_points (k + 0) k ps (omega arith)
-  items_both k (l ∷ ls) ps =
-      let e : k + length (l ∷ ls) ≡ suc k + length ls = omega arith in
-      rw (item_record s (k + suc (length ls)) k l (omega arith), append_assoc)
-      (ap (λ (r : Bytes). record_from s l ++ r) (ap (λ (n : ℕ). items_from s n (suc k) (ls ++ ps)) e ∙ items_both (suc k) ls ps))
-
   records_from : (sheet : Bytes) (n at : ℕ) → map (record_from s) (payload_lines sheet s n at) ≡ map (record_bytes 2) (kept (sheet_keeps sheet) (walk 2 n at s))
   unfolding record_from
   records_from sheet n at = sym (map-map (record_named s) (record_bytes 2) (payload_lines sheet s n at)) ∙ ap (map (record_bytes 2)) (payload_records sheet s n at)
 
--- what the cutting list of a file names: its kept records and points
-pub cut_items : (sheet s : Bytes) → items_from s (length (public_of sheet s).records) 0 (cutting_lines sheet s)
+-- its kept records and points
+pub cut_items : (sheet s : Bytes) → records_named s (record_lines sheet s) ++ points_named s (point_lines sheet s)
     ≡ records_bytes 2 (public_of sheet s).records ++ join (public_of sheet s).points
-unfolding cutting_lines records_bytes record_lines
+unfolding records_named points_named records_bytes record_lines
 cut_items sheet s =
-    let rs : List Span = record_lines sheet s in
-    let e : length (public_of sheet s).records ≡ 0 + length rs = sym (length-record_lines sheet s) ∙ omega arith in
-    rw e (items_both s 0 rs (point_lines sheet s)
-    ∙ rw (point_lines_name sheet s, records_from s sheet (record_count s) (header_size s), public_records sheet s, contents_records s))
+    rw (point_lines_name sheet s, records_from s sheet (record_count s) (header_size s), public_records sheet s, contents_records s) refl

@@ -8,9 +8,7 @@ use Rattle.std.proofs.Common.{rules}
 use Rattle.fields.specs.Bytes.{AllBytes}
 use Rattle.publicpart.specs.Answers.{taken}
 use Rattle.publicpart.specs.Cutting.{cutting_lines, fill, release_by_list}
-use Rattle.release.specs.Writing.{lines_in}
-use Rattle.release.specs.ByList.{finished}
-use Rattle.release.proofs.by_list.ByListLaws.{lines_fit, items_fit, answer_fits, together, as_they_were}
+use Rattle.release.proofs.by_list.ByListLaws.{lines_fit, all_put, items_fit, answer_fits, together, as_they_were}
 use Rattle.release.proofs.by_list.release_by_list.Goals.{In_ok-released, After-fill_list}
 use Rattle.release.proofs.by_list.release_by_list.Goals as goal
 
@@ -38,7 +36,7 @@ pub write_lines-requires : goal.write_lines-requires
 write_lines-requires c =
     let a = c.args in
     let d = (goal.at.write_lines-requires c).In_ok-released in
-    rw c.fill_list.ensures (items_fit a.sheet.now a.file.now a.out.now a.list.now _ (bytes d) (decided d))
+    rw (c.fill_list.ensures, all_put a.sheet.now a.file.now a.out.now a.list.now _ (bytes d) (decided d)) (items_fit a.sheet.now a.file.now a.out.now a.list.now _ (bytes d) (decided d))
 
 pub finish-requires : goal.finish-requires
 finish-requires c =
@@ -47,15 +45,14 @@ finish-requires c =
     rw c.write_lines.auto.out (answer_fits a.sheet.now a.file.now a.out.now a.list.now _ (bytes d) (decided d))
 
 pub returns : goal.returns
-unfolding finished
 returns c =
     let a = c.args in
     let d = (goal.at.returns c).In_ok-released in
-    rw (c.finish.ensures, c.write_lines.ensures, c.fill_list.ensures) (together a.sheet.now a.file.now a.out.now a.list.now _ (bytes d) (decided d))
+    rw (c.finish.ensures, c.write_lines.ensures, c.fill_list.ensures, all_put a.sheet.now a.file.now a.out.now a.list.now _ (bytes d) (decided d)) (together a.sheet.now a.file.now a.out.now a.list.now _ (bytes d) (decided d))
 
 pub returns-in_err-released : goal.returns-in_err-released
 returns-in_err-released c =
     let a = c.args in
     let decided = c.in_err-released.ensures a.out.now a.list.now refl refl in
-    let refused = as_they_were a.sheet.now a.file.now a.out.now a.list.now _ (λ i. omega (arith, c.type_inv.file i)) decided in
+    let refused = as_they_were a.sheet.now a.file.now a.out.now a.list.now _ decided in
     search (rules, refused)

@@ -1,27 +1,23 @@
 -- `writing::write_lines` meets its contract. Assumes nothing.
-use Rattle.publicpart.specs.Answers.{taken}
-use Rattle.release.proofs.writing.WritingIn.{first_turn, has_room, next_turn, at_end}
+use mathlib.Core.Path.{◌∙◌}
+use native.Mathlib.Omega.{arith}
+use Rattle.release.proofs.writing.ItemLaws.{length-items, in_two}
 use Rattle.release.proofs.writing.write_lines.Goals as goal
 
-pub loop-t-init : goal.loop-t-init
-loop-t-init c = let a = c.args in first_turn a.file.now a.list.now (taken a.released) a.out.now c.begin-t.result c.begin-t.ensures
-
-pub write_line-t-requires : goal.write_line-t-requires
-write_line-t-requires c =
+pub write_records-end-requires : goal.write_records-end-requires
+write_records-end-requires c =
     let a = c.args in
-    let l = c.loop-t in
-    has_room a.file.now a.list.now (taken a.released) a.out.now c.requires l.t l.out l.invariant c.loop-t-test.true c.line_at.result c.line_at.ensures
+    rw c.split_at.ensures.front (omega (arith, c.requires.within, length-items a.file.now a.list.now a.released))
 
-pub loop-t-preserved : goal.loop-t-preserved
-loop-t-preserved c =
+pub write_points-requires : goal.write_points-requires
+write_points-requires c =
     let a = c.args in
-    let l = c.loop-t in
-    let w = c.write_line-t in
-    next_turn a.file.now a.list.now (taken a.released) a.out.now c.requires l.t l.out l.invariant c.loop-t-test.true c.line_at.result c.line_at.ensures
-    w.result w.ensures.0 _ w.ensures.1
+    rw (c.split_at.ensures.back, c.write_records-end.ensures.0, c.split_at.ensures.front)
+    (omega (arith, c.requires.within, c.write_records-end.auto.out, length-items a.file.now a.list.now a.released))
 
 pub returns : goal.returns
 returns c =
     let a = c.args in
-    let l = c.loop-t in
-    at_end a.file.now a.list.now (taken a.released) a.out.now c.requires l.t l.out l.invariant c.loop-t-test.false
+    c.write_points.ensures
+    ∙ rw (c.write_records-end.ensures.1, c.write_records-end.ensures.0, c.split_at.ensures.front, c.split_at.ensures.back)
+    (in_two a.file.now a.list.now a.released a.out.now 227)
