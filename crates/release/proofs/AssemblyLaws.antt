@@ -2,12 +2,11 @@
 -- public part's.
 -- Assumes nothing.
 use mathlib.Core.Path.{◌≡◌, refl, sym, ap, ◌∙◌}
-use mathlib.Core.Bool.{Bool}
 use Prim.Native.Nat.{ℕ, ◌+◌, ◌-◌, ◌*◌, ◌≤◌}
 use native.Mathlib.Omega.{arith}
 use mathlib.Core.List.{List, [], ◌∷◌, ◌++◌, append_assoc}
 use lib.ListN.{length, take, drop, length-append, length-drop, length-replicate, replicate-append-replicate}
-use Rattle.sheet.specs.declared.boxes.Boxes.{Boxes}
+use Rattle.release.specs.declared.kept_points.Keeper.{Keeper}
 use lib.Seq.{sets, sets-eq, length-sets, length-take-le, get_or-drop, take_at, drop_at, take-append-add}
 use Rattle.fields.specs.Lists.{All, total}
 use Rattle.fields.specs.Bytes.{Bytes, AllBytes, zeros, join, pieces}
@@ -153,11 +152,11 @@ module _ (sheet s : Bytes) (bytes : AllBytes s) (passes : file_verdict s ≡ Pas
         rw (own-head, append_assoc front records (points ++ z))
         (over_front front (records ++ (points ++ z)) head (length_front ∙ sym length_of_head) ∙ sym (render_parts part_of z))
 
-  module _ (table : List Bool) (right : TableOf sheet (format s) table) (boxes : Boxes) (read : BoxesOf sheet boxes) where
-    -- table and boxes keep the points that the sheet keeps
-    by_table : (ps : List Bytes) → All AllBytes ps → All (λ p. keeps_by table boxes (format s) p ≡ keeps_point sheet (format s) p) ps
+  module _ (keeper : Keeper) (right : TableOf sheet (format s) keeper.table) (read : BoxesOf sheet keeper.boxes) where
+    -- the points that the sheet keeps are kept
+    by_table : (ps : List Bytes) → All AllBytes ps → All (λ p. keeps_by keeper.table keeper.boxes (format s) p ≡ keeps_point sheet (format s) p) ps
     by_table [] h = tt
-    by_table (p ∷ ps) h = (keeps_by_lem sheet (format s) table boxes right read p h.0, by_table ps h.1)
+    by_table (p ∷ ps) h = (keeps_by_lem sheet (format s) keeper.table keeper.boxes right read p h.0, by_table ps h.1)
 
     run_bytes : AllBytes run
     run_bytes i = rw get_or-drop (bytes (point_offset s + i))
@@ -165,11 +164,11 @@ module _ (sheet s : Bytes) (bytes : AllBytes s) (passes : file_verdict s ≡ Pas
     held : InRun (point_count s) (record_length s) (length run)
     held = record { long = long; few = count_low s bytes; within = simp length-drop (omega (arith, (passed s passes).pointed)) }
 
-    pub points_are : kept_in table boxes s ≡ part_of.points
+    pub points_are : kept_in keeper s ≡ part_of.points
     points_are =
-        rw (kept_in_lem table boxes s, public_points sheet s, contents_points s)
-        (kept_held (keeps_by table boxes (format s)) (point_count s) (record_length s) run held
-        ∙ kept_same (keeps_by table boxes (format s)) (keeps_point sheet (format s)) (pieces (point_count s) (record_length s) run)
+        rw (kept_in_lem keeper s, public_points sheet s, contents_points s)
+        (kept_held (keeps_by keeper.table keeper.boxes (format s)) (point_count s) (record_length s) run held
+        ∙ kept_same (keeps_by keeper.table keeper.boxes (format s)) (keeps_point sheet (format s)) (pieces (point_count s) (record_length s) run)
         (by_table (pieces (point_count s) (record_length s) run) (pieces_bytes (point_count s) (record_length s) run run_bytes)))
 
     module _ (out : Bytes) (room : length (render part_of) ≤ length out) where
@@ -178,28 +177,28 @@ module _ (sheet s : Bytes) (bytes : AllBytes s) (passes : file_verdict s ≡ Pas
           rw (sets-eq records out header_block (omega (arith, render-length, offset_is)))
           (take_at (front out room ++ records) (drop (header_block + length records) out) (new_offset part_of) (length_both out room))
 
-      points_stored : with_points table boxes s (new_offset part_of) (sets out header_block records) ≡ (front out room ++ records) ++ (points ++ z out room)
+      points_stored : with_points keeper s (new_offset part_of) (sets out header_block records) ≡ (front out room ++ records) ++ (points ++ z out room)
       points_stored =
           let n : length out - new_offset part_of - length points ≡ length out - length (render part_of) = omega (arith, render-length, length_of_points) in
           rw (with_points_lem, records_stored, length-sets, points_are, zeros_behind points (length out - new_offset part_of) (omega (arith, render-length, length_of_points)), n)
 
       -- records, points and zeros at their places, and the header over the front
-      pub assembled : written sheet s table boxes (length part_of.records) (new_offset part_of) out ≡ render part_of ++ z out room
+      pub assembled : written sheet s keeper (length part_of.records) (new_offset part_of) out ≡ render part_of ++ z out room
       assembled = rw (written_is, points_stored, points_are) (headed out room)
 
 -- what was measured, over the released file
-pub record Sized (sheet s : Bytes) (table : List Bool) (boxes : Boxes) (k : KeptRecords) : Type 0 where
+pub record Sized (sheet s : Bytes) (keeper : Keeper) (k : KeptRecords) : Type 0 where
   pub offset : k.end ≡ new_offset (public_of sheet s)
-  pub needed : end_of_points table boxes s k.end ≡ length (render (public_of sheet s))
-  pub points : length (kept_in table boxes s) ≡ length (public_of sheet s).points
+  pub needed : end_of_points keeper s k.end ≡ length (render (public_of sheet s))
+  pub points : length (kept_in keeper s) ≡ length (public_of sheet s).points
   pub records : k.count ≡ length (public_of sheet s).records
   pub most : k.end + point_count s * record_length s ≤ length s
 
-pub sized : (sheet s : Bytes) → AllBytes s → file_verdict s ≡ Passes → (table : List Bool) → TableOf sheet (format s) table
-    → (boxes : Boxes) → BoxesOf sheet boxes → (k : KeptRecords) → k ≡ measured (public_of sheet s).records → Sized sheet s table boxes k
+pub sized : (sheet s : Bytes) → AllBytes s → file_verdict s ≡ Passes → (keeper : Keeper) → TableOf sheet (format s) keeper.table
+    → BoxesOf sheet keeper.boxes → (k : KeptRecords) → k ≡ measured (public_of sheet s).records → Sized sheet s keeper k
 unfolding measured
-sized sheet s bytes passes table right boxes read k m =
-    let points : length (kept_in table boxes s) ≡ length (public_of sheet s).points = ap length (points_are sheet s bytes passes table right boxes read) in
+sized sheet s bytes passes keeper right read k m =
+    let points : length (kept_in keeper s) ≡ length (public_of sheet s).points = ap length (points_are sheet s bytes passes keeper right read) in
     let offset : k.end ≡ new_offset (public_of sheet s) = rw (new_offset_lem (public_of sheet s)) (ap (λ (r : KeptRecords). r.end) m) in
     record {
       offset = offset;

@@ -5,24 +5,24 @@ use Rattle.std.specs.Prelude.{◌≡◌, ℕ, zero, suc, ◌+◌, ◌*◌, ◌^�
 use Rattle.fields.specs.Lists.{cons_if}
 use Rattle.fields.specs.Bytes.{Bytes}
 use Rattle.lasfile.specs.HeaderFields.{header_size, point_offset, record_count, format, record_length, point_count}
-use Rattle.sheet.specs.declared.boxes.Boxes.{Boxes}
 use Rattle.sheet.specs.Boxes.{keeps_by}
 use Rattle.publicpart.specs.declared.Span.{Span}
 use Rattle.publicpart.specs.Cutting.{span, payload_line, payload_lines, piece_lines}
+use Rattle.release.specs.declared.kept_points.Keeper.{Keeper}
 use Rattle.release.specs.declared.filling.Filling.{Filling}
 
--- the lines of n records and m points, each from a place on, where a table and boxes say which points are kept
-unfoldable pub lines_of : Bytes → List Bool → Boxes → Bytes → ℕ → ℕ → ℕ → ℕ → List Span
-lines_of sheet table boxes s n record_at m point_at =
-    payload_lines sheet s n record_at ++ piece_lines (keeps_by table boxes (format s)) s (record_length s) m point_at
+-- the lines of n records and m points, each from a place on, where a keeper says which points are kept
+unfoldable pub lines_of : Bytes → Keeper → Bytes → ℕ → ℕ → ℕ → ℕ → List Span
+lines_of sheet keeper s n record_at m point_at =
+    payload_lines sheet s n record_at ++ piece_lines (keeps_by keeper.table keeper.boxes (format s)) s (record_length s) m point_at
 
 -- of what is still to look at
-abbrev pub lines_from : Bytes → List Bool → Boxes → Bytes → Filling → List Span
-lines_from sheet table boxes s t = lines_of sheet table boxes s t.records t.record_at t.points t.point_at
+abbrev pub lines_from : Bytes → Keeper → Bytes → Filling → List Span
+lines_from sheet keeper s t = lines_of sheet keeper s t.records t.record_at t.points t.point_at
 
 -- of a file
-abbrev pub table_lines : Bytes → List Bool → Boxes → Bytes → List Span
-table_lines sheet table boxes s = lines_of sheet table boxes s (record_count s) (header_size s) (point_count s) (point_offset s)
+abbrev pub kept_lines : Bytes → Keeper → Bytes → List Span
+kept_lines sheet keeper s = lines_of sheet keeper s (record_count s) (header_size s) (point_count s) (point_offset s)
 
 -- the header's fields are the file's, and sums of places and of lines do not wrap: a record has less than 2 ^ 17 bytes
 pub record Ready (s : Bytes) (t : Filling) : Type 0 where
@@ -67,13 +67,13 @@ pub record Begun (s : Bytes) (n : ℕ) (t : Filling) : Type 0 where
   pub ready : Ready s t
   pub none : t.k ≡ 0
   pub bound : t.n ≡ n
-  pub lines : (sheet : Bytes) (table : List Bool) (boxes : Boxes) → lines_from sheet table boxes s t ≡ table_lines sheet table boxes s
+  pub lines : (sheet : Bytes) (keeper : Keeper) → lines_from sheet keeper s t ≡ kept_lines sheet keeper s
 
 -- the thing at hand was looked at: where it is kept its line comes first, and k counts it
-pub record Looked (sheet : Bytes) (table : List Bool) (boxes : Boxes) (s : Bytes) (t r : Filling) : Type 0 where
+pub record Looked (sheet : Bytes) (keeper : Keeper) (s : Bytes) (t r : Filling) : Type 0 where
   pub ready : Ready s r
   pub bound : r.n ≡ t.n
   pub keep : Bool
   pub count : r.k ≡ t.k + cond keep 1 0
-  pub lines : lines_from sheet table boxes s t ≡ cons_if keep (span t.place t.length) (lines_from sheet table boxes s r)
+  pub lines : lines_from sheet keeper s t ≡ cons_if keep (span t.place t.length) (lines_from sheet keeper s r)
   pub fewer : r.records + r.points < t.records + t.points

@@ -1,5 +1,6 @@
 pub mod Heads
 pub mod KeptRecords
+pub mod Blocks
 pub mod KeptPoints
 pub mod Assembly
 pub mod BoxIndex

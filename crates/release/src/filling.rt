@@ -1,15 +1,13 @@
 // Where the filling of a list stands, as a file is looked at one thing after the other: records, and then points.
-ghost use Rattle.std.specs.Prelude.{◌≡◌, Bool, List, ◌+◌, ◌<◌};
+ghost use Rattle.std.specs.Prelude.{◌≡◌, ◌+◌, ◌<◌};
 ghost use Rattle.fields.specs.Bytes.{Bytes};
-ghost use Rattle.sheet.specs.declared.boxes.Boxes as declared;
+ghost use Rattle.release.specs.declared.kept_points.Keeper as declared;
 ghost use Rattle.release.specs.Filling.{Ready, with_line, HasLine, Begun, Looked};
 
-use crate::kept_points::one_if;
+use crate::kept_points::Keeper;
 use crate::vlrs;
 use fields::slices;
 use lasfile::{header, vlr};
-use sheet::boxes;
-use sheet::boxes::Boxes;
 
 // Where the filling of a list stands: line k comes next, and `more` says that k is less than n, the lines to fill.
 // Still to look at are `records` records from `record_at` on, and then `points` points from `point_at` on. At hand is
@@ -72,43 +70,37 @@ pub(crate) fn first_line(file: &[u8], n: usize) -> Filling
 // Behind the record at hand: k goes up where it is kept.
 fn past_record(file: &[u8], sheet: &[u8], t: Filling) -> Filling
     requires { Ready file.now t × HasLine file.now t × (0 < t.records) }
-    ensures { (table : List Bool) (boxes : declared.Boxes) → Looked sheet.now table boxes file.now t result }
+    ensures { (keeper : declared.Keeper) → Looked sheet.now keeper file.now t result }
 {
     let vlr = slices::part_at(file, t.record_at, file.len());
     let mut u = t;
-    u.k = t.k + one_if(vlrs::keeps(sheet, vlr));
+    u.k = t.k + usize::from(vlrs::keeps(sheet, vlr));
     u.records = t.records - 1;
     u.record_at = t.record_at + vlr::size_at(file, t.record_at);
     u
 }
 
 // Behind the point at hand, with no branch on whether it is kept, where there is no box.
-fn past_point(file: &[u8], table: &[bool; 256], boxes: &Boxes, t: Filling) -> Filling
+fn past_point(file: &[u8], keeper: &Keeper, t: Filling) -> Filling
     requires { Ready file.now t × HasLine file.now t × (t.records ≡ 0) × (0 < t.points) }
-    ensures { (sheet : Bytes) → Looked sheet table.now boxes.now file.now t result }
+    ensures { (sheet : Bytes) → Looked sheet keeper.now file.now t result }
 {
     let point = slices::part_at(file, t.point_at, t.record_length);
     let mut u = t;
-    u.k = t.k + one_if(boxes::keeps_by(table, boxes, t.format, point));
+    u.k = t.k + usize::from(keeper.keeps(t.format, point));
     u.points = t.points - 1;
     u.point_at = t.point_at + t.record_length;
     u
 }
 
 // Behind the thing at hand, and at the next. There is one as long as a line is still to fill.
-pub(crate) fn next_line(
-    file: &[u8],
-    sheet: &[u8],
-    table: &[bool; 256],
-    boxes: &Boxes,
-    t: Filling,
-) -> Filling
+pub(crate) fn next_line(file: &[u8], sheet: &[u8], keeper: &Keeper, t: Filling) -> Filling
     requires { Ready file.now t × HasLine file.now t × (0 < t.records + t.points) }
-    ensures { Looked sheet.now table.now boxes.now file.now t result
+    ensures { Looked sheet.now keeper.now file.now t result
         × HasLine file.now result }
 {
     if 0 < t.records {
         return with_line(file, past_record(file, sheet, t));
     }
-    with_line(file, past_point(file, table, boxes, t))
+    with_line(file, past_point(file, keeper, t))
 }

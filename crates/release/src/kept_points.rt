@@ -1,245 +1,164 @@
-// The points of a run that a table and boxes keep: where they stand, and how many they are.
+// The points of a run that a sheet keeps: where they stand, and how many they are.
 // No loop over points branches on whether one is kept, since no processor can guess which way it goes.
-ghost use Rattle.std.specs.Prelude.{◌≡◌, cond, ◌*◌, ◌≤◌, ◌<◌, length, take};
-ghost use Rattle.fields.specs.Lists.{kept};
-ghost use Rattle.sheet.specs.Keeping.{in_table};
-ghost use Rattle.sheet.specs.Boxes.{box_count, in_boxes, keeps_by};
+ghost use Rattle.std.specs.Prelude.{◌≡◌, ◌≤◌, ◌<◌, length, take};
+ghost use Rattle.lasfile.specs.HeaderFields.{format};
+ghost use Rattle.sheet.specs.Keeping.{TableOf, in_table};
+ghost use Rattle.sheet.specs.Boxes.{BoxesOf, box_count, in_boxes, keeps_by};
 ghost use Rattle.release.specs.BoxIndex.{Covers};
-ghost use Rattle.release.specs.KeptPoints.{kept_points, kept_of, picked, Places, Chooses};
+ghost use Rattle.release.specs.KeptPoints.{kept_of, Places, Chooses, Leaves};
 
+use crate::blocks::Blocks;
 use crate::box_index::BoxIndex;
-use fields::numbers;
+use crate::run::Points;
+use lasfile::header;
 use points::raw;
 use sheet::boxes::Boxes;
 use sheet::{boxes, class_table};
 
-// How many records are looked at before the kept ones among them are copied: so many stay in the first-level cache.
-pub(crate) const BLOCK: usize = 64;
-
-// What a point or a record counts. The compiler makes no branch of it.
-pub(crate) fn one_if(keep: bool) -> usize
-    ensures { (result ≡ cond keep 1 0) × (result ≤ 1) }
-{
-    if keep { 1 } else { 0 }
+// The places of chosen records of a block, in order, and how many they are.
+#[derive(Clone, Copy)]
+pub(crate) struct Chosen {
+    pub(crate) places: [usize; 64],
+    pub(crate) count: usize,
 }
 
-// Puts the places of those records among the first n of a block that the table keeps into `chosen`, in order, and says
-// how many they are. Each place is put behind those chosen before, and stays there only where its record is kept.
-fn choose_by_table(
-    block: &[u8],
-    format: u8,
-    record_length: usize,
-    n: usize,
-    table: &[bool; 256],
-    chosen: &mut [usize],
-) -> usize
-    requires { (n ≤ 64) × (n ≤ length chosen.old) × (n * record_length ≤ length block.now) }
-    ensures { Chooses (in_table table.now format)
-        n record_length block.now result chosen.new }
-{
-    let mut at = 0;
-    let mut k = 0;
-    let mut left = n;
-    while 0 < left {
-        let next = at + record_length;
-        chosen[k] = at;
-        k += one_if(class_table::in_table(table, format, &block[at..next]));
-        at = next;
-        left -= 1;
+// None is chosen yet.
+impl Default for Chosen {
+    fn default() -> Chosen {
+        Chosen {
+            places: [0; 64],
+            count: 0,
+        }
     }
-    k
 }
 
-// Leaves of the first k chosen places those whose records lie in a box, in order at the front, and says how many they
-// are. Each place is put behind those that stay, and stays there only where its record lies in one. No record is
-// shorter than 20 bytes; that is asked so that the compiler knows it, and makes no code for stored values cut short.
-fn choose_in_boxes(
-    block: &[u8],
-    record_length: usize,
-    boxes: &Boxes,
-    index: &BoxIndex,
-    k: usize,
-    chosen: &mut [usize],
-) -> usize
-    requires { (k ≤ 64)
-        × (k ≤ length chosen.old)
-        × Places record_length block.now (take k chosen.old)
-        × (20 ≤ record_length)
-        × (0 < box_count boxes.now)
-        × Covers boxes.now index.now }
-    ensures { (result ≤ k)
-        × (picked record_length block.now (take result chosen.new)
-        ≡ kept (in_boxes boxes.now)
-        (picked record_length block.now (take k chosen.old)))
-        × Places record_length block.now (take result chosen.new) }
-{
-    if record_length < raw::SHORTEST {
-        return 0;
-    }
-    let n = boxes::count(boxes);
-    let mut m = 0;
-    let mut j = 0;
-    while j < k {
-        let at = chosen[j];
-        let end = at + record_length;
-        chosen[m] = at;
-        let p = raw::stored_of(&block[at..end]);
-        m += one_if(index.in_boxes(boxes, n, p));
-        j += 1;
-    }
-    m
+// What a sheet keeps of the points of a file, made once for a release.
+#[derive(Clone, Copy)]
+pub(crate) struct Keeper {
+    pub(crate) table: [bool; 256],
+    pub(crate) boxes: Boxes,
+    index: BoxIndex,
+    ghost covers: { Covers boxes index },
 }
 
-// Puts the places of the kept records among the first n of a block into `chosen`, in order, and says how many they are.
-// Boxes are asked only of the records that the table keeps.
-fn choose_by_both(
-    block: &[u8],
-    format: u8,
-    record_length: usize,
-    n: usize,
-    table: &[bool; 256],
-    boxes: &Boxes,
-    index: &BoxIndex,
-    chosen: &mut [usize],
-) -> usize
-    requires { (n ≤ 64)
-        × (n ≤ length chosen.old)
-        × (n * record_length ≤ length block.now)
-        × (20 ≤ record_length)
-        × (0 < box_count boxes.now)
-        × Covers boxes.now index.now }
-    ensures { Chooses (keeps_by table.now boxes.now format)
-        n record_length block.now result chosen.new }
-{
-    let k = choose_by_table(block, format, record_length, n, table, chosen);
-    choose_in_boxes(block, record_length, boxes, index, k, chosen)
-}
-
-// The same. Where there is no box, none is asked.
-pub(crate) fn choose(
-    block: &[u8],
-    format: u8,
-    record_length: usize,
-    n: usize,
-    table: &[bool; 256],
-    boxes: &Boxes,
-    index: &BoxIndex,
-    chosen: &mut [usize],
-) -> usize
-    requires { (n ≤ 64)
-        × (n ≤ length chosen.old)
-        × (n * record_length ≤ length block.now)
-        × (20 ≤ record_length)
-        × Covers boxes.now index.now }
-    ensures { Chooses (keeps_by table.now boxes.now format)
-        n record_length block.now result chosen.new }
-{
-    if boxes::no_box(boxes) {
-        return choose_by_table(block, format, record_length, n, table, chosen);
-    }
-    choose_by_both(block, format, record_length, n, table, boxes, index, chosen)
-}
-
-// Counts the points that the table keeps of a run that holds them all.
-fn count_run(
-    run: &[u8],
-    format: u8,
-    record_length: usize,
-    count: usize,
-    table: &[bool; 256],
-) -> usize
-    requires { count * record_length ≤ length run.now }
-    ensures { result ≡ length (kept_of (in_table table.now format) count record_length run.now) }
-{
-    let mut at = 0;
-    let mut n = 0;
-    let mut left = count;
-    while 0 < left {
-        let next = at + record_length;
-        n += one_if(class_table::in_table(table, format, &run[at..next]));
-        at = next;
-        left -= 1;
-    }
-    n
-}
-
-// Counts the points that table and boxes keep of a run that holds them all, block by block.
-fn count_blocks(
-    run: &[u8],
-    format: u8,
-    record_length: usize,
-    count: usize,
-    table: &[bool; 256],
-    boxes: &Boxes,
-) -> usize
-    requires { (count * record_length ≤ length run.now)
-        × (20 ≤ record_length)
-        × (0 < box_count boxes.now) }
-    ensures { result
-        ≡ length (kept_of (keeps_by table.now boxes.now format) count record_length
-        run.now) }
-{
-    let index = BoxIndex::of(boxes);
-    let mut chosen = [0usize; BLOCK];
-    let mut at = 0;
-    let mut n = 0;
-    let mut left = count;
-    while 0 < left {
-        let m = numbers::least(left, BLOCK);
-        let next = at + m * record_length;
-        n += choose_by_both(
-            &run[at..next],
-            format,
-            record_length,
-            m,
+impl Keeper {
+    pub(crate) fn of(file: &[u8], sheet: &[u8]) -> Keeper
+        ensures table { TableOf sheet.now (format file.now) result.table }
+        ensures boxes { BoxesOf sheet.now result.boxes }
+    {
+        let table = class_table::class_table(sheet, header::format(file));
+        let boxes = boxes::boxes_of(sheet);
+        let index = BoxIndex::of(&boxes);
+        Keeper {
             table,
             boxes,
-            &index,
-            &mut chosen,
-        );
-        at = next;
-        left -= m;
+            index,
+        }
     }
-    n
-}
 
-// Counts the kept points of a run that holds them all. Where there is no box, none is asked.
-fn count_held(
-    run: &[u8],
-    format: u8,
-    record_length: usize,
-    count: usize,
-    table: &[bool; 256],
-    boxes: &Boxes,
-) -> usize
-    requires { (count * record_length ≤ length run.now) × (20 ≤ record_length) }
-    ensures { result
-        ≡ length (kept_of (keeps_by table.now boxes.now format) count record_length
-        run.now) }
-{
-    if boxes::no_box(boxes) {
-        return count_run(run, format, record_length, count, table);
+    // Whether it keeps a point.
+    pub(crate) fn keeps(&self, format: u8, point: &[u8]) -> bool
+        ensures { result ≡ keeps_by self.now.table self.now.boxes format point.now }
+    {
+        boxes::keeps_by(&self.table, &self.boxes, format, point)
     }
-    count_blocks(run, format, record_length, count, table, boxes)
-}
 
-// How many of the first `count` records of `run`, `record_length` bytes each, table and boxes keep; none where the run
-// does not hold them.
-pub(crate) fn count_points(
-    run: &[u8],
-    format: u8,
-    record_length: usize,
-    count: usize,
-    table: &[bool; 256],
-    boxes: &Boxes,
-) -> usize
-    ensures { result
-        ≡ length (kept_points (keeps_by table.now boxes.now format) count record_length
-        run.now) }
-{
-    if raw::holds(run.len(), record_length, count) {
-        count_held(run, format, record_length, count, table, boxes)
-    } else {
-        0
+    // Chooses the records of a block that the table keeps. Each place is put behind those chosen before, and stays
+    // there only where its record is kept.
+    fn choose_by_table(&self, block: Points<'_>, chosen: &mut Chosen)
+        requires { block.count ≤ 64 }
+        ensures { Chooses (in_table self.now.table block.entry.format) block.entry chosen.new }
+    {
+        let mut k = 0;
+        for i in 0..block.count {
+            let at = i * block.record_length;
+            chosen.places[k] = at;
+            let point = block.record_at(at);
+            k += usize::from(class_table::in_table(&self.table, block.format, point));
+        }
+        chosen.count = k;
+    }
+
+    // Leaves of the chosen records those that lie in a box. Each place is put behind those that stay, and stays there
+    // only where its record lies in one. No record is shorter than 20 bytes; that is asked so that the compiler knows
+    // it, and makes no code for stored values cut short.
+    fn leave_in_boxes(&self, block: Points<'_>, chosen: &mut Chosen)
+        requires { (chosen.old.count ≤ 64)
+            × Places block.record_length block.bytes.now (take chosen.old.count chosen.old.places)
+            × (0 < box_count self.now.boxes) }
+        ensures { Leaves (in_boxes self.now.boxes) block.entry chosen.old chosen.new }
+    {
+        if block.record_length < raw::SHORTEST {
+            return;
+        }
+        let n = boxes::count(&self.boxes);
+        let mut m = 0;
+        for j in 0..chosen.count {
+            let at = chosen.places[j];
+            chosen.places[m] = at;
+            let p = raw::stored_of(block.record_at(at));
+            m += usize::from(self.index.in_boxes(&self.boxes, n, p));
+        }
+        chosen.count = m;
+    }
+
+    // Chooses the kept records of a block. Boxes are asked only of the records that the table keeps.
+    fn choose_by_both(&self, block: Points<'_>, chosen: &mut Chosen)
+        requires { (block.count ≤ 64) × (0 < box_count self.now.boxes) }
+        ensures { Chooses (keeps_by self.now.table self.now.boxes block.entry.format) block.entry chosen.new }
+    {
+        self.choose_by_table(block, chosen);
+        self.leave_in_boxes(block, chosen);
+    }
+
+    // The same. Where there is no box, none is asked.
+    pub(crate) fn choose(&self, block: Points<'_>, chosen: &mut Chosen)
+        requires { block.count ≤ 64 }
+        ensures { Chooses (keeps_by self.now.table self.now.boxes block.entry.format) block.entry chosen.new }
+    {
+        if boxes::no_box(&self.boxes) {
+            self.choose_by_table(block, chosen);
+        } else {
+            self.choose_by_both(block, chosen);
+        }
+    }
+
+    // Counts the points that the table keeps.
+    fn count_by_table(&self, points: Points<'_>) -> usize
+        ensures { result ≡ length (kept_of (in_table self.now.table points.entry.format) points.entry) }
+    {
+        let mut n = 0;
+        for i in 0..points.count {
+            let point = points.record_at(i * points.record_length);
+            n += usize::from(class_table::in_table(&self.table, points.format, point));
+        }
+        n
+    }
+
+    // Counts the kept points, block by block.
+    fn count_by_both(&self, points: Points<'_>) -> usize
+        requires { 0 < box_count self.now.boxes }
+        ensures { result
+            ≡ length (kept_of (keeps_by self.now.table self.now.boxes points.entry.format) points.entry) }
+    {
+        let mut chosen = Chosen::default();
+        let mut n = 0;
+        let blocks = Blocks { rest: points };
+        for block in blocks {
+            self.choose_by_both(block, &mut chosen);
+            n += chosen.count;
+        }
+        n
+    }
+
+    // Counts the kept points. Where there is no box, none is asked.
+    pub(crate) fn count(&self, points: Points<'_>) -> usize
+        ensures { result
+            ≡ length (kept_of (keeps_by self.now.table self.now.boxes points.entry.format) points.entry) }
+    {
+        if boxes::no_box(&self.boxes) {
+            return self.count_by_table(points);
+        }
+        self.count_by_both(points)
     }
 }

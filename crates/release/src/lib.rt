@@ -3,6 +3,7 @@
 #![tactic(auto)]
 
 mod assembly;
+mod blocks;
 mod box_index;
 pub mod by_list;
 mod copier;
@@ -11,44 +12,38 @@ mod filling;
 mod head;
 mod kept_points;
 mod lines;
+mod run;
 mod vlrs;
 mod writing;
 
 ghost use Rattle.std.specs.Prelude.{◌≡◌, ◌+◌, ◌*◌, ◌^◌, ◌<◌, length};
-ghost use Rattle.lasfile.specs.HeaderFields.{format, point_count, record_length};
+ghost use Rattle.lasfile.specs.HeaderFields.{point_count, record_length};
 ghost use Rattle.fields.specs.Checks.{then};
 ghost use Rattle.fields.specs.Refusals.{verdict_of};
 ghost use Rattle.lasfile.specs.FileChecks.{file_verdict};
 ghost use Rattle.sheet.specs.Sheet.{sheet_verdict};
 ghost use Rattle.publicpart.specs.Answers.{answer_of};
 ghost use Rattle.publicpart.specs.Release.{release};
-ghost use Rattle.sheet.specs.Keeping.{TableOf};
 ghost use Rattle.release.specs.Assembly.{kept_in, room_asked};
 
+use crate::kept_points::Keeper;
+use crate::run::Points;
 use fields::refusal::Refusal;
-use fields::slices;
 use lasfile::header;
 use publicpart::{ReleaseError, Released};
-use sheet::boxes::Boxes;
-use sheet::{boxes, class_table};
 
-// How many points of a file a table and boxes keep.
-pub(crate) fn count_kept(file: &[u8], table: &[bool; 256], boxes: &Boxes) -> usize
-    ensures { result ≡ length (kept_in table.now boxes.now file.now) }
+// How many points of a file are kept.
+pub(crate) fn count_kept(file: &[u8], keeper: &Keeper) -> usize
+    ensures { result ≡ length (kept_in keeper.now file.now) }
 {
-    let offset = header::point_offset(file);
-    let format = header::format(file);
-    let record_length = header::record_length(file);
-    let count = header::point_count(file);
-    let run = slices::part_at(file, offset, file.len());
-    kept_points::count_points(run, format, record_length, count, table, boxes)
+    keeper.count(Points::of(file))
 }
 
 // The room that is asked of an output for points from `start` on. One with room for all the points of the file is asked
 // for that much, and the kept ones are not counted: their number comes out of the writing.
-fn room_for(file: &[u8], table: &[bool; 256], boxes: &Boxes, start: usize, room: usize) -> usize
+fn room_for(file: &[u8], keeper: &Keeper, start: usize, room: usize) -> usize
     requires { start + point_count file.now * record_length file.now < 2 ^ 64 }
-    ensures { result ≡ room_asked table.now boxes.now file.now start room }
+    ensures { result ≡ room_asked keeper.now file.now start room }
 {
     let record_length = header::record_length(file);
     let count = header::point_count(file);
@@ -56,14 +51,7 @@ fn room_for(file: &[u8], table: &[bool; 256], boxes: &Boxes, start: usize, room:
     if most <= room {
         return most;
     }
-    start + count_kept(file, table, boxes) * record_length
-}
-
-// Which points of a file's format a sheet keeps, wherever they lie.
-pub(crate) fn table_for(file: &[u8], sheet: &[u8]) -> [bool; 256]
-    ensures { TableOf sheet.now (format file.now) result }
-{
-    class_table::class_table(sheet, header::format(file))
+    start + count_kept(file, keeper) * record_length
 }
 
 // Checks a file, and then a sheet.
@@ -81,15 +69,14 @@ pub fn release(file: &[u8], sheet: &[u8], out: &mut [u8]) -> Result<Released, Re
 {
     check_both(file, sheet)?;
     let kept = vlrs::measure(file, sheet);
-    let table = table_for(file, sheet);
-    let boxes = boxes::boxes_of(sheet);
+    let keeper = Keeper::of(file, sheet);
     let records = kept.count;
     let start = kept.end;
-    let needed = room_for(file, &table, &boxes, start, out.len());
+    let needed = room_for(file, &keeper, start, out.len());
     if out.len() < needed {
         return Err(ReleaseError::OutputTooShort(needed));
     }
-    let points = assembly::write(file, sheet, &table, &boxes, records, start, out);
+    let points = assembly::write(file, sheet, &keeper, kept, out);
     let length = start + points * header::record_length(file);
     Ok(Released {
         length,

@@ -3,9 +3,7 @@
 -- Assumes nothing.
 use mathlib.Core.Path.{◌≡◌, refl}
 use Prim.Native.Nat.{ℕ}
-use mathlib.Core.Bool.{Bool}
-use mathlib.Core.List.{List}
-use Rattle.sheet.specs.declared.boxes.Boxes.{Boxes}
+use Rattle.release.specs.declared.kept_points.Keeper.{Keeper}
 use lib.Seq.{sets}
 use Rattle.fields.specs.Bytes.{Bytes}
 use Rattle.lasfile.specs.Records.{records_bytes}
@@ -31,9 +29,9 @@ pub head_said : (s : Bytes) (t : Tally) (records start : ℕ) → ◌≡◌ {A =
 unfolding head_with totals_of
 head_said s t records start = refl
 
-pub written_is : (sheet s : Bytes) (table : List Bool) (boxes : Boxes) (records start : ℕ) (out : Bytes)
-    → written sheet s table boxes records start out
-    ≡ sets (with_points table boxes s start (sets out header_block (records_bytes 2 (public_of sheet s).records))) 0
-    (head_bytes s (totals_of s (tally_of (format s) (kept_in table boxes s)) records start))
+pub written_is : (sheet s : Bytes) (keeper : Keeper) (records start : ℕ) (out : Bytes)
+    → written sheet s keeper records start out
+    ≡ sets (with_points keeper s start (sets out header_block (records_bytes 2 (public_of sheet s).records))) 0
+    (head_bytes s (totals_of s (tally_of (format s) (kept_in keeper s)) records start))
 unfolding written
-written_is sheet s table boxes records start out = refl
+written_is sheet s keeper records start out = refl

@@ -1,7 +1,7 @@
 -- Laws of cells: a stored value from a box's low to its high lies in a cell from that of the low to that of the high.
 -- Assumes nothing.
 use mathlib.Core.Path.{◌≡◌, refl}
-use Prim.Native.Nat.{ℕ, ◌-◌, ◌/◌, ◌%◌, ◌^◌, ◌≤◌, ◌<◌}
+use Prim.Native.Nat.{ℕ, ◌-◌, ◌/◌, ◌%◌, ◌^◌, ◌≤◌}
 use native.Mathlib.Omega.{arith}
 use mathlib.Core.Bool.{true}
 use native.Mathlib.Nat.{mul-le-mul_right}
@@ -39,7 +39,3 @@ unfolding cell_of
 cell_le begin bits a b e =
     let less = key-le a b e in
     omega (arith, div-le (key a - begin) (key b - begin) (bits % 64) (omega (arith, less)))
-
-pub cell_small : (begin bits : ℕ) (z : ℤ) → cell_of begin bits z < 64
-unfolding cell_of
-cell_small begin bits z = omega arith

@@ -1,11 +1,11 @@
--- Where the loop of `fill_by_table` stands, and what its proof asks of it: no line of this file is about code.
+-- Where the loop of `fill_kept` stands, and what its proof asks of it: no line of this file is about code.
 -- Assumes nothing.
 use mathlib.Core.Path.{◌≡◌, refl, sym, ap, ◌∙◌}
 use Prim.Native.Nat.{ℕ, ◌+◌, ◌<◌, ◌≤◌}
 use native.Mathlib.Omega.{arith}
-use mathlib.Core.Bool.{Bool, true, false}
+use mathlib.Core.Bool.{true, false}
 use mathlib.Core.List.{List, [], ◌++◌, append_assoc}
-use Rattle.sheet.specs.declared.boxes.Boxes.{Boxes}
+use Rattle.release.specs.declared.kept_points.Keeper.{Keeper}
 use lib.ListN.{length, take, drop, set, length-append, length-set, take-append-drop}
 use lib.Seq.{length-take-le, take_at, drop-set-lt}
 use borrow.Author.Tests.{ltb-true, ltb-false}
@@ -15,7 +15,7 @@ use Rattle.fields.proofs.ListLaws.{cons_if-append}
 use Rattle.publicpart.specs.declared.Span.{Span}
 use Rattle.publicpart.specs.Cutting.{span, fill}
 use Rattle.release.specs.declared.filling.Filling.{Filling}
-use Rattle.release.specs.Filling.{lines_from, table_lines, Ready, HasLine, Begun, Looked}
+use Rattle.release.specs.Filling.{lines_from, kept_lines, Ready, HasLine, Begun, Looked}
 use Rattle.release.proofs.kept_points.LoopLaws.{step_le, take_put}
 use Rattle.release.proofs.filling.LineLaws.{some_left}
 
@@ -26,28 +26,28 @@ here t = span t.place t.length
 -- n lines are to be filled into the list as it was, ys; the filling stands at t, and the list is zs. Its lines before
 -- line k and those of what is still to look at are all the lines. Line k may be any, and from line n on the list is as
 -- it was
-pub record Filled (sheet : Bytes) (table : List Bool) (boxes : Boxes) (s : Bytes) (n : ℕ) (ys : List Span) (t : Filling) (zs : List Span) : Type 0 where
+pub record Filled (sheet : Bytes) (keeper : Keeper) (s : Bytes) (n : ℕ) (ys : List Span) (t : Filling) (zs : List Span) : Type 0 where
   pub ready : Ready s t
   pub hand : HasLine s t
   pub bound : t.n ≡ n
-  pub all : take t.k zs ++ lines_from sheet table boxes s t ≡ table_lines sheet table boxes s
+  pub all : take t.k zs ++ lines_from sheet keeper s t ≡ kept_lines sheet keeper s
   pub few : t.k ≤ n
   pub back : drop n zs ≡ drop n ys
   pub long : length zs ≡ length ys
 
-module _ (sheet : Bytes) (table : List Bool) (boxes : Boxes) (s : Bytes) (n : ℕ) (ys : List Span) where
-  pub first_turn : (t : Filling) → Begun s n t → HasLine s t → Filled sheet table boxes s n ys t ys
+module _ (sheet : Bytes) (keeper : Keeper) (s : Bytes) (n : ℕ) (ys : List Span) where
+  pub first_turn : (t : Filling) → Begun s n t → HasLine s t → Filled sheet keeper s n ys t ys
   first_turn t b h = record {
     ready = b.ready;
     hand = h;
     bound = b.bound;
-    all = ap (λ (k : ℕ). take k ys ++ lines_from sheet table boxes s t) b.none ∙ b.lines sheet table boxes;
+    all = ap (λ (k : ℕ). take k ys ++ lines_from sheet keeper s t) b.none ∙ b.lines sheet keeper;
     few = omega (arith, b.none);
     back = refl;
     long = refl;
   }
 
-  module _ (small : n ≤ length (table_lines sheet table boxes s)) (fits : n ≤ length ys) (t : Filling) (zs : List Span) (a : Filled sheet table boxes s n ys t zs) where
+  module _ (small : n ≤ length (kept_lines sheet keeper s)) (fits : n ≤ length ys) (t : Filling) (zs : List Span) (a : Filled sheet keeper s n ys t zs) where
     -- the lines before line k are k lines
     front : length (take t.k zs) ≡ t.k
     front = length-take-le t.k zs (omega (arith, a.few, a.long))
@@ -61,13 +61,13 @@ module _ (sheet : Bytes) (table : List Bool) (boxes : Boxes) (s : Bytes) (n : �
 
       pub has_more : 0 < t.records + t.points
       has_more =
-          some_left sheet table boxes s t
-          (omega (arith, below, front, sym (length-append (take t.k zs) (lines_from sheet table boxes s t)) ∙ ap length a.all))
+          some_left sheet keeper s t
+          (omega (arith, below, front, sym (length-append (take t.k zs) (lines_from sheet keeper s t)) ∙ ap length a.all))
 
-      module _ (t' : Filling) (l : Looked sheet table boxes s t t') (h : HasLine s t') (zs' : List Span) (e : zs' ≡ set zs t.k (here t)) where
-        still_all : take t'.k zs' ++ lines_from sheet table boxes s t' ≡ table_lines sheet table boxes s
+      module _ (t' : Filling) (l : Looked sheet keeper s t t') (h : HasLine s t') (zs' : List Span) (e : zs' ≡ set zs t.k (here t)) where
+        still_all : take t'.k zs' ++ lines_from sheet keeper s t' ≡ kept_lines sheet keeper s
         still_all =
-            let rest : List Span = lines_from sheet table boxes s t' in
+            let rest : List Span = lines_from sheet keeper s t' in
             let before : List Span = take t.k zs in
             let put = take_put t.k zs (here t) l.keep has_place in
             (λ i. take (l.count i) (e i) ++ rest)
@@ -76,7 +76,7 @@ module _ (sheet : Bytes) (table : List Bool) (boxes : Boxes) (s : Bytes) (n : �
             ∙ ap (λ (x : List Span). before ++ x) (cons_if-append l.keep (here t) [] rest ∙ sym l.lines)
             ∙ a.all
 
-        pub next_turn : Filled sheet table boxes s n ys t' zs'
+        pub next_turn : Filled sheet keeper s n ys t' zs'
         next_turn = record {
           ready = l.ready;
           hand = h;
@@ -88,11 +88,11 @@ module _ (sheet : Bytes) (table : List Bool) (boxes : Boxes) (s : Bytes) (n : �
         }
 
     -- all n lines are filled
-    pub at_end : t.more ≡ false → zs ≡ fill (take n (table_lines sheet table boxes s)) ys
+    pub at_end : t.more ≡ false → zs ≡ fill (take n (kept_lines sheet keeper s)) ys
     unfolding fill
     at_end no_more =
         let full : t.k ≡ n = omega (arith, a.few, ltb-false t.k t.n (sym a.hand.more ∙ no_more), a.bound) in
-        let lines : take n (table_lines sheet table boxes s) ≡ take n zs =
-        ap (take n) (sym a.all) ∙ take_at (take t.k zs) (lines_from sheet table boxes s t) n (front ∙ full) ∙ ap (λ (k : ℕ). take k zs) full in
-        let number : length (take n (table_lines sheet table boxes s)) ≡ n = length-take-le n (table_lines sheet table boxes s) small in
-        sym (take-append-drop n zs) ∙ (λ i. sym lines i ++ a.back i) ∙ ap (λ (m : ℕ). take n (table_lines sheet table boxes s) ++ drop m ys) (sym number)
+        let lines : take n (kept_lines sheet keeper s) ≡ take n zs =
+        ap (take n) (sym a.all) ∙ take_at (take t.k zs) (lines_from sheet keeper s t) n (front ∙ full) ∙ ap (λ (k : ℕ). take k zs) full in
+        let number : length (take n (kept_lines sheet keeper s)) ≡ n = length-take-le n (kept_lines sheet keeper s) small in
+        sym (take-append-drop n zs) ∙ (λ i. sym lines i ++ a.back i) ∙ ap (λ (m : ℕ). take n (kept_lines sheet keeper s) ++ drop m ys) (sym number)

@@ -6,7 +6,7 @@ use native.Mathlib.Omega.{arith}
 use mathlib.Core.Bool.{Bool, cond}
 use mathlib.Core.List.{List, [], ◌++◌}
 use lib.ListN.{length, drop}
-use Rattle.sheet.specs.declared.boxes.Boxes.{Boxes}
+use Rattle.release.specs.declared.kept_points.Keeper.{Keeper}
 use Rattle.fields.specs.Lists.{kept, cons_if}
 use Rattle.fields.specs.Bytes.{Bytes, part}
 use Rattle.fields.proofs.ListLaws.{cons_if-append, map-cons_if}
@@ -35,19 +35,19 @@ at_point s (suc n) at point_at h = absurd (omega arith)
 
 -- ---- the lines of n records and m points, and of one less
 
-module _ (sheet : Bytes) (table : List Bool) (boxes : Boxes) (s : Bytes) where
+module _ (sheet : Bytes) (keeper : Keeper) (s : Bytes) where
   abbrev records : ℕ → ℕ → List Span
   records n at = payload_lines sheet s n at
 
   abbrev points : ℕ → ℕ → List Span
-  points m at = piece_lines (keeps_by table boxes (format s)) s (record_length s) m at
+  points m at = piece_lines (keeps_by keeper.table keeper.boxes (format s)) s (record_length s) m at
 
   -- whether the record, or the point, at a place is kept
   abbrev record_kept : ℕ → Bool
   record_kept at = sheet_keeps sheet (record_at 2 s at)
 
   abbrev point_kept : ℕ → Bool
-  point_kept at = keeps_by table boxes (format s) (part at (record_length s) s)
+  point_kept at = keeps_by keeper.table keeper.boxes (format s) (part at (record_length s) s)
 
   record_first : (n at : ℕ) → records (suc n) at ≡ cons_if (record_kept at) (payload_line s at) (records n (at + size_of 2 (drop at s)))
   unfolding payload_lines kept places
@@ -66,11 +66,11 @@ module _ (sheet : Bytes) (table : List Bool) (boxes : Boxes) (s : Bytes) where
   no_points at = refl
 
   -- where there is a line, something is still to look at
-  nothing_left : (t : Filling) → t.records ≡ 0 → t.points ≡ 0 → lines_from sheet table boxes s t ≡ []
+  nothing_left : (t : Filling) → t.records ≡ 0 → t.points ≡ 0 → lines_from sheet keeper s t ≡ []
   unfolding lines_of
   nothing_left t e f = rw (e, f, no_records, no_points)
 
-  pub some_left : (t : Filling) → 0 < length (lines_from sheet table boxes s t) → 0 < t.records + t.points
+  pub some_left : (t : Filling) → 0 < length (lines_from sheet keeper s t) → 0 < t.records + t.points
   some_left t h = by_number (t.records + t.points) refl
     where
       by_number : (n : ℕ) → t.records + t.points ≡ n → 0 < n
@@ -81,7 +81,7 @@ module _ (sheet : Bytes) (table : List Bool) (boxes : Boxes) (s : Bytes) where
 
   module _ (t : Filling) (ready : Ready s t) (hand : HasLine s t) (j : ℕ) where
     pub past_record : 0 < t.records → j ≡ cond (record_kept t.record_at) 1 0 → (size : ℕ) → size ≡ size_of 2 (drop t.record_at s) → size < 2 ^ 17
-        → Looked sheet table boxes s t (record {
+        → Looked sheet keeper s t (record {
           more = t.more;
           k = t.k + j;
           place = t.place;
@@ -122,7 +122,7 @@ module _ (sheet : Bytes) (table : List Bool) (boxes : Boxes) (s : Bytes) where
         }
 
     pub past_point : t.records ≡ 0 → 0 < t.points → j ≡ cond (point_kept t.point_at) 1 0
-        → Looked sheet table boxes s t (record {
+        → Looked sheet keeper s t (record {
           more = t.more;
           k = t.k + j;
           place = t.place;
@@ -171,9 +171,9 @@ module _ (s : Bytes) where
   ready_with_line t r =
       record { format = r.format; size = r.size; short = r.short; few = r.few; records_low = r.records_low; points_low = r.points_low }
 
-  pub looked_with_line : (sheet : Bytes) (table : List Bool) (boxes : Boxes) (t r : Filling) → Looked sheet table boxes s t r → Looked sheet table boxes s t (with_line s r)
+  pub looked_with_line : (sheet : Bytes) (keeper : Keeper) (t r : Filling) → Looked sheet keeper s t r → Looked sheet keeper s t (with_line s r)
   unfolding lines_of
-  looked_with_line sheet table boxes t r l =
+  looked_with_line sheet keeper t r l =
       record { ready = ready_with_line r l.ready; bound = l.bound; keep = l.keep; count = l.count; lines = l.lines; fewer = l.fewer }
 
   -- where all begins
@@ -197,5 +197,5 @@ module _ (s : Bytes) where
             };
         none = z;
         bound = b;
-        lines = λ sheet table boxes. rw (rc.0, ra.0, pc.0, pa.0);
+        lines = λ sheet keeper. rw (rc.0, ra.0, pc.0, pa.0);
       }

@@ -1,29 +1,28 @@
--- A loop over a run of records, apart from any code: what holds at the start, after a turn, and at the end.
+-- A loop over the records of a run, apart from any code: where a record lies, and what one record more comes to.
 -- Assumes nothing.
-use mathlib.Core.Path.{◌≡◌, refl, sym, ap, ◌∙◌}
-use Prim.Native.Nat.{ℕ, zero, suc, ◌+◌, ◌-◌, ◌*◌, ◌≤◌, ◌<◌}
+use mathlib.Core.Path.{◌≡◌, refl, ap, ◌∙◌}
+use Prim.Native.Nat.{ℕ, zero, suc, ◌+◌, ◌*◌, ◌≤◌, ◌<◌}
 use native.Mathlib.Omega.{arith}
-use native.Mathlib.Nat.{add-mul}
+use native.Mathlib.Nat.{mul-le-mul_right, add-mul}
 use mathlib.Core.Bool.{Bool, true, false, cond}
-use mathlib.Core.List.{List, [], ◌∷◌, ◌++◌, append-nil, append_assoc}
-use lib.ListN.{length, take, drop, set, length-append}
-use lib.Seq.{drop-drop}
+use mathlib.Core.List.{List, [], ◌∷◌, ◌++◌}
+use lib.ListN.{length, take, set, length-append}
+use mir.Val.{bool_byte}
 use Rattle.fields.specs.Lists.{kept, cons_if}
 use Rattle.fields.specs.Bytes.{Bytes, part, pieces}
-use Rattle.fields.proofs.ByteLaws.{pieces_step, length-pieces, pieces-part, pieces_split}
-use Rattle.fields.proofs.ListLaws.{cons_if-append, kept_append, length-kept}
-use Rattle.points.proofs.raw.RunLaws.{mul_step}
+use Rattle.fields.proofs.ByteLaws.{pieces_split}
+use Rattle.fields.proofs.ListLaws.{kept_append}
 
--- the record at hand, as it is lent
-pub lent_record : (at w : ℕ) (run : Bytes) → take (at + w - at) (drop at run) ≡ part at w run
-unfolding part
-lent_record at w run = let e : at + w - at ≡ w = omega arith in rw e
+-- ---- one thing more, which is kept or not
+
+-- as the code counts it
+pub one_is : (b : Bool) → bool_byte b ≡ cond b 1 0
+one_is true = refl
+one_is false = refl
 
 pub step_le : (b : Bool) (n : ℕ) → cond b n 0 ≤ n
 step_le true n = omega arith
 step_le false n = omega arith
-
--- ---- one thing more, which is kept or not
 
 module _ {A : Type 0} where
   -- put behind the first k, and counted or not
@@ -36,107 +35,35 @@ module _ {A : Type 0} where
       let e : suc k + cond b 1 0 ≡ suc (k + cond b 1 0) = omega arith in
       rw e (ap (λ (r : List A). x ∷ r) (take_put k xs v b (omega arith)))
 
--- ---- the run
+-- ---- record i of a run
 
--- `left` records from `at` on are still to look at; `done` are the kept ones before them
-pub record Looked (keep : Bytes → Bool) (w count : ℕ) (run : Bytes) (done : List Bytes) (left at : ℕ) : Type 0 where
-  pub within : at + left * w ≤ length run
-  pub all : done ++ kept keep (pieces left w (drop at run)) ≡ kept keep (pieces count w run)
+-- it lies in the run
+pub record_fits : (i count w size : ℕ) → i < count → count * w ≤ size → i * w + w ≤ size
+record_fits i count w size less held =
+    let most : (i + 1) * w ≤ count * w = mul-le-mul_right w (omega arith) in
+    let e : (i + 1) * w ≡ i * w + 1 * w = add-mul i 1 w in
+    omega (arith, most, e, held)
 
-module _ (keep : Bytes → Bool) (w count : ℕ) (run : Bytes) where
-  pub begun : count * w ≤ length run → Looked keep w count run [] count 0
-  begun h = record { within = omega arith; all = refl }
+-- the first i records, and one more
+pieces_next : (i w : ℕ) (run : Bytes) → pieces (i + 1) w run ≡ pieces i w run ++ (part (i * w) w run ∷ [])
+unfolding pieces part
+pieces_next i w run = pieces_split i 1 w run
 
-  pub done_all : (done : List Bytes) (at : ℕ) → Looked keep w count run done 0 at → done ≡ kept keep (pieces count w run)
-  unfolding kept pieces
-  done_all done at l = sym (append-nil done) ∙ l.all
-
-  module _ (done : List Bytes) (left at : ℕ) (more : 0 < left) (l : Looked keep w count run done left at) where
-    -- the record at hand lies in the run
-    pub ends : at + w + (left - 1) * w ≤ length run
-    ends = omega (arith, l.within, mul_step left w more)
-
-    -- one record more is looked at
-    pub next : (b : Bool) → b ≡ keep (part at w run) → Looked keep w count run (done ++ cons_if b (part at w run) []) (left - 1) (at + w)
-    unfolding kept
-    next b e =
-        record {
-          within = ends;
-          all = rw (append_assoc, cons_if-append, e) (rw (pieces_step left w at run more) at l.all);
-        }
-
-  -- n records more are looked at, as a block
-  module _ (done : List Bytes) (left at : ℕ) (l : Looked keep w count run done left at) (n : ℕ) (few : n ≤ left) where
-    abbrev pub block : Bytes
-    block = part at (n * w) run
-
-    -- the kept records of the block, and those behind it
-    abbrev pub ks : List Bytes
-    ks = kept keep (pieces n w block)
-
-    abbrev pub later : List Bytes
-    later = kept keep (pieces (left - n) w (drop (at + n * w) run))
-
-    split_left : n + (left - n) ≡ left
-    split_left = omega arith
-
-    products : left * w ≡ n * w + (left - n) * w
-    products = let e : (n + (left - n)) * w ≡ n * w + (left - n) * w = add-mul n (left - n) w in rw split_left at e
-
-    pub block_in : at + n * w ≤ length run
-    block_in = omega (arith, l.within, products)
-
-    parts : kept keep (pieces left w (drop at run)) ≡ ks ++ later
-    parts =
-        let e : pieces (n + (left - n)) w (drop at run) ≡ pieces n w (drop at run) ++ pieces (left - n) w (drop (n * w) (drop at run)) = pieces_split n (left - n) w (drop at run) in
-        let g : pieces left w (drop at run) ≡ pieces n w (drop at run) ++ pieces (left - n) w (drop (at + n * w) run) = rw (split_left, drop-drop (n * w) at run) at e in
-        rw (g, kept_append, pieces-part n w at run)
-
-    pub whole : done ++ (ks ++ later) ≡ kept keep (pieces count w run)
-    whole = rw parts at l.all
-
-    pub next_block : Looked keep w count run (done ++ ks) (left - n) (at + n * w)
-    next_block = record { within = omega (arith, l.within, products); all = rw append_assoc whole }
-
--- ---- counting
+-- and the kept ones of them
+pub kept_next : (keep : Bytes → Bool) (i w : ℕ) (run : Bytes)
+    → kept keep (pieces (i + 1) w run) ≡ kept keep (pieces i w run) ++ cons_if (keep (part (i * w) w run)) (part (i * w) w run) []
+unfolding kept
+kept_next keep i w run = ap (kept keep) (pieces_next i w run) ∙ kept_append keep (pieces i w run) (part (i * w) w run ∷ [])
 
 length_one : (b : Bool) (p : Bytes) → length (cons_if b p []) ≡ cond b 1 0
 unfolding cons_if
 length_one true p = refl
 length_one false p = refl
 
-pub record Counted (keep : Bytes → Bool) (w count : ℕ) (run : Bytes) (left at n : ℕ) : Type 0 where
-  pub done : List Bytes
-  pub looked : Looked keep w count run done left at
-  pub number : n ≡ length done
-  pub few : n + left ≤ count
+-- counted
+pub count_next : (keep : Bytes → Bool) (i w : ℕ) (run : Bytes) (n : ℕ) (b : Bool) → n ≡ length (kept keep (pieces i w run)) → b ≡ keep (part (i * w) w run)
+    → n + bool_byte b ≡ length (kept keep (pieces (i + 1) w run))
+count_next keep i w run n b e f = rw (kept_next keep i w run, length-append, length_one, e, f, one_is)
 
-module _ (keep : Bytes → Bool) (w count : ℕ) (run : Bytes) where
-  pub count_begun : count * w ≤ length run → Counted keep w count run count 0 0
-  count_begun h = record { done = []; looked = begun keep w count run h; number = refl; few = omega arith }
-
-  pub count_next : (left at n : ℕ) → 0 < left → Counted keep w count run left at n → (b : Bool) → b ≡ keep (part at w run)
-      → Counted keep w count run (left - 1) (at + w) (n + cond b 1 0)
-  count_next left at n more c b e =
-      record {
-        done = c.done ++ cons_if b (part at w run) [];
-        looked = next keep w count run c.done left at more c.looked b e;
-        number = rw (c.number, length-append, length_one);
-        few = omega (arith, c.few, step_le b 1);
-      }
-
-  pub count_ended : (left at n : ℕ) → left ≤ 0 → Counted keep w count run left at n → n ≡ length (kept keep (pieces count w run))
-  count_ended zero at n h c = c.number ∙ ap length (done_all keep w count run c.done at c.looked)
-  count_ended (suc left) at n h c = absurd (omega arith)
-
-  -- a block of n records more
-  pub count_block : (left at n : ℕ) (c : Counted keep w count run left at n) (m : ℕ) → m ≤ left → (k : ℕ)
-      → k ≡ length (kept keep (pieces m w (part at (m * w) run))) → Counted keep w count run (left - m) (at + m * w) (n + k)
-  count_block left at n c m few k e =
-      let own = kept keep (pieces m w (part at (m * w) run)) in
-      record {
-        done = c.done ++ own;
-        looked = next_block keep w count run c.done left at c.looked m few;
-        number = rw (c.number, e, length-append);
-        few = omega (arith, c.few, e, length-kept keep (pieces m w (part at (m * w) run)), length-pieces m w (part at (m * w) run));
-      }
+pub count_le : (n i : ℕ) (b : Bool) → n ≤ i → n + bool_byte b ≤ i + 1
+count_le n i b h = omega (arith, one_is b, step_le b 1)

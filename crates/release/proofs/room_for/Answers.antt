@@ -23,18 +23,18 @@ overflow_add-most c = omega (arith, most_is c, c.requires)
 pub returns-then-most-room : goal.returns-then-most-room
 returns-then-most-room c =
     let a = c.args in
-    most_is (goal.at.returns-then-most-room c).After-point_count-count ∙ asked_most a.table.now a.boxes.now a.file.now a.start a.room (omega (arith, most_is (goal.at.returns-then-most-room c).After-point_count-count, c.if-most-room.true))
+    most_is (goal.at.returns-then-most-room c).After-point_count-count ∙ asked_most a.keeper.now a.file.now a.start a.room (omega (arith, most_is (goal.at.returns-then-most-room c).After-point_count-count, c.if-most-room.true))
 
 -- the kept ones, which are counted
 end_is : (c : After-count_kept)
     → let a = c.args in
-    a.start + c.count_kept.result * c.record_length-record_length.result ≡ end_of_points a.table.now a.boxes.now a.file.now a.start
+    a.start + c.count_kept.result * c.record_length-record_length.result ≡ end_of_points a.keeper.now a.file.now a.start
 end_is c =
     let a = c.args in
-    rw (points_end a.table.now a.boxes.now a.file.now a.start, c.count_kept.ensures, c.record_length-record_length.ensures.0)
+    rw (points_end a.keeper.now a.file.now a.start, c.count_kept.ensures, c.record_length-record_length.ensures.0)
 
-small : (c : After-count_kept) → let a = c.args in end_of_points a.table.now a.boxes.now a.file.now a.start < 2 ^ 64
-small c = let a = c.args in omega (arith, end_most a.table.now a.boxes.now a.file.now a.start, c.requires)
+small : (c : After-count_kept) → let a = c.args in end_of_points a.keeper.now a.file.now a.start < 2 ^ 64
+small c = let a = c.args in omega (arith, end_most a.keeper.now a.file.now a.start, c.requires)
 
 pub overflow_mul-result : goal.overflow_mul-result
 overflow_mul-result c = omega (arith, end_is c, small c)
@@ -45,4 +45,4 @@ overflow_add-result c = omega (arith, end_is c, small c)
 pub returns : goal.returns
 returns c =
     let a = c.args in
-    end_is c ∙ asked_counted a.table.now a.boxes.now a.file.now a.start a.room (omega (arith, most_is (goal.at.returns c).After-point_count-count, c.if-most-room.false))
+    end_is c ∙ asked_counted a.keeper.now a.file.now a.start a.room (omega (arith, most_is (goal.at.returns c).After-point_count-count, c.if-most-room.false))

@@ -17,5 +17,5 @@ returns c =
     let s = a.file.now in
     let points = c.put_points-tally in
     let recorded : c.copy_records.new.out ≡ sets a.out.now header_block (records_bytes 2 (public_of a.sheet.now s).records) = c.copy_records.ensures in
-    let counted : points.result.count ≡ length (kept_in a.table.now a.boxes.now s) = ap (λ (t : Tally). t.count) points.ensures.0 ∙ tally_count (format s) (kept_in a.table.now a.boxes.now s) in
+    let counted : points.result.count ≡ length (kept_in a.keeper.now s) = ap (λ (t : Tally). t.count) points.ensures.0 ∙ tally_count (format s) (kept_in a.keeper.now s) in
     (counted, c.put_head.ensures ∙ rw (c.totals_of.ensures, points.ensures.0, points.ensures.1, recorded))

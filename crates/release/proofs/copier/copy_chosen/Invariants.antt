@@ -1,10 +1,7 @@
 -- What the loop of `copier::copy_chosen` keeps is `Pasted`. Assumes nothing.
-use Prim.Native.Nat.{◌-◌}
+use Rattle.release.specs.KeptPoints.{chosen_of}
 use Rattle.release.proofs.copier.ChosenLaws.{Pasted}
 use Rattle.release.proofs.copier.copy_chosen.Given as goal
 
-abbrev pub invariant-loop-j : goal.invariant-loop-j
-invariant-loop-j l = Pasted l.record_length l.block l.chosen l.k l.initial.out l.out l.to l.j
-
-abbrev pub decreases-loop-j : goal.decreases-loop-j
-decreases-loop-j l = l.k - l.j
+abbrev pub invariant-loop-at : goal.invariant-loop-at
+invariant-loop-at l = Pasted l.block.record_length l.block.bytes.now (chosen_of l.chosen) l.initial.out l.out l.to l.at-index

@@ -10,4 +10,4 @@ pub returns : goal.returns
 returns c passes =
     let a = c.args in
     let bytes : AllBytes a.file.now = λ i. omega (arith, c.type_inv.file i) in
-    c.count_kept.ensures ∙ ap length (points_are a.sheet.now a.file.now bytes passes c.table_for-table.result c.table_for-table.ensures c.boxes_of-boxes.result c.boxes_of-boxes.ensures)
+    c.count_kept.ensures ∙ ap length (points_are a.sheet.now a.file.now bytes passes c.of.result c.of.ensures.table c.of.ensures.boxes)

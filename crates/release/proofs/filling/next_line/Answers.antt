@@ -1,7 +1,6 @@
 -- `filling::next_line` meets its contract. Assumes nothing.
 use native.Mathlib.Omega.{arith}
 use mathlib.Core.List.{[]}
-use Rattle.sheet.specs.Boxes.{no_boxes}
 use Rattle.release.proofs.filling.LineLaws.{stands, looked_with_line}
 use Rattle.release.proofs.filling.next_line.Goals as goal
 
@@ -9,13 +8,13 @@ pub past_record-requires : goal.past_record-requires
 past_record-requires c = let pre = c.requires in (pre.0, pre.1, c.if-t-gt0.true)
 
 pub with_line-requires : goal.with_line-requires
-with_line-requires c = (c.past_record.ensures [] no_boxes).ready
+with_line-requires c = (c.past_record.ensures c.args.keeper.now).ready
 
 pub returns-then-t-gt0 : goal.returns-then-t-gt0
 returns-then-t-gt0 c =
     let a = c.args in
     rw c.with_line.ensures
-    (looked_with_line a.file.now a.sheet.now a.table.now a.boxes.now a.t c.past_record.result (c.past_record.ensures a.table.now a.boxes.now), stands a.file.now c.past_record.result)
+    (looked_with_line a.file.now a.sheet.now a.keeper.now a.t c.past_record.result (c.past_record.ensures a.keeper.now), stands a.file.now c.past_record.result)
 
 pub past_point-requires : goal.past_point-requires
 past_point-requires c =
@@ -30,4 +29,4 @@ pub returns : goal.returns
 returns c =
     let a = c.args in
     rw c.with_line-2.ensures
-    (looked_with_line a.file.now a.sheet.now a.table.now a.boxes.now a.t c.past_point.result (c.past_point.ensures a.sheet.now), stands a.file.now c.past_point.result)
+    (looked_with_line a.file.now a.sheet.now a.keeper.now a.t c.past_point.result (c.past_point.ensures a.sheet.now), stands a.file.now c.past_point.result)
