@@ -24,7 +24,7 @@ pub fn cut_length(text: &[u8]) -> usize
 }
 
 // Whether the cut of a text's bytes from a place on is empty.
-#[tactic(auto, using(crate::proofs::text::SameLaws::over))]
+#[tactic(auto, using(crate::proofs::ByteLaws::from_place))]
 fn is_over(text: &[u8], at: usize) -> bool
     ensures { result ≡ same (cut (drop at text.now)) [] }
 {
@@ -41,7 +41,6 @@ fn is_over(text: &[u8], at: usize) -> bool
 }
 
 // Whether two texts have the same cut: where their next bytes differ, only if the cuts of both rests are empty.
-#[tactic(auto, using(crate::proofs::text::SameLaws::alike))]
 pub fn same_cut(a: &[u8], b: &[u8]) -> bool
     ensures { result ≡ same (cut a.now) (cut b.now) }
 {

@@ -7,11 +7,11 @@ use native.Mathlib.Omega.{arith}
 use mathlib.Core.List.{[], ◌∷◌}
 use borrow.Author.Tests.{eq-eqb, ne_eqb}
 use lib.Dec.{eqb}
-use lib.ListN.{drop, get_or, get_or-eq_default}
+use lib.ListN.{drop, get_or}
 use Rattle.fields.specs.Bytes.{Bytes, same}
 use Rattle.fields.specs.Lists.{cons_if}
 use Rattle.fields.specs.Text.{cons_trimmed, cut}
-use Rattle.fields.proofs.ByteLaws.{and-false, same_self, from_place}
+use Rattle.fields.proofs.ByteLaws.{and-false, same_self}
 use Rattle.fields.proofs.TextLaws.{space_goes, other_stays, cut_stops, cut_goes}
 
 -- ---- whether anything is left
@@ -99,8 +99,3 @@ pub alike_ends : (i : ℕ) (t u : Bytes) {d : ℕ} → d ≡ get_or u i 0 → (g
     → same (cut (drop i t)) (cut (drop i u)) ≡ same (cut (drop i t)) [] && same (cut (drop i u)) []
 alike_ends i t u {d} e n =
     other_byte (get_or t i 0) d (cut (drop i t)) (cut (drop i u)) n (begins i t (get_or t i 0) refl) (begins i u d (sym e))
-
--- for `is_over`, and for `same_cut`
-pub ruleset over = (none_left, more_left, some_left, get_or-eq_default, from_place)
-
-pub ruleset alike = (none_left, alike_goes, alike_stops, alike_ends, get_or-eq_default)
