@@ -1,51 +1,42 @@
--- The loop over a run of records, apart from any code: what holds at the start, after a turn, and at the end.
--- Assumes nothing.
-use mathlib.Core.Path.{◌≡◌, refl}
+-- The loop over a run of records, apart from any code: one record more, from the front. Assumes nothing.
+use mathlib.Core.Path.{◌≡◌, refl, sym, ◌∙◌}
 use Prim.Native.Nat.{ℕ, ◌+◌, ◌-◌, ◌*◌, ◌^◌, ◌≤◌, ◌<◌}
 use native.Mathlib.Omega.{arith}
-use mathlib.Core.List.{◌∷◌, foldl}
-use lib.ListN.{length, take, drop}
-use lib.Seq.{drop-drop}
+use native.Mathlib.Numerals.{add-one}
+use mathlib.Core.List.{foldl}
+use lib.ListN.{take, drop}
 use Rattle.fields.specs.Bytes.{Bytes, pieces}
-use Rattle.points.proofs.raw.RunLaws.{pieces_step, mul_step}
+use Rattle.points.proofs.raw.RunLaws.{mul_step}
+use Rattle.points.proofs.raw.RawLaws.{return_small}
 use Rattle.tally.specs.declared.Tally.{Tally}
 use Rattle.tally.specs.Tally.{tallied, CountsUpTo}
-use Rattle.tally.proofs.CountLaws.{counts_with, counts_up}
+use Rattle.tally.proofs.CountLaws.{one_few, counts_with, counts_up}
 
--- what holds where `left` of the `count` records are left, the next one at `at`
-pub record Running (f len : ℕ) (run : Bytes) (count : ℕ) (t₀ : Tally) (left at : ℕ) (t : Tally) : Type 0 where
-  pub few : left ≤ count
-  pub within : at + left * len ≤ length run
-  pub counts : CountsUpTo t (2 ^ 32 + (count - left))
-  pub same : foldl (tallied f) t (pieces left len (drop at run)) ≡ foldl (tallied f) t₀ (pieces count len run)
+first : (f n m len : ℕ) (t : Tally) (s : Bytes) → n ≡ m + 1 → foldl (tallied f) t (pieces n len s) ≡ foldl (tallied f) (tallied f t (take len s)) (pieces m len (drop len s))
+unfolding pieces
+first f n m len t s e = rw (e, add-one) refl
 
-module _ (f len : ℕ) (run : Bytes) (count : ℕ) (t₀ : Tally) where
-  pub start : count * len ≤ length run → CountsUpTo t₀ (2 ^ 32) → Running f len run count t₀ count 0 t₀
-  start h u = record { few = omega arith; within = omega arith; counts = counts_up t₀ (2 ^ 32) (2 ^ 32 + (count - count)) u (omega arith); same = refl }
+pub fold_none : (f n len : ℕ) (t : Tally) (s : Bytes) → n ≡ 0 → foldl (tallied f) t (pieces n len s) ≡ t
+unfolding pieces
+fold_none f n len t s e = rw e refl
 
-  pub ended : (left at : ℕ) (t : Tally) → Running f len run count t₀ left at t → left ≡ 0 → t ≡ foldl (tallied f) t₀ (pieces count len run)
-  unfolding pieces
-  ended left at t r e =
-      let s : foldl (tallied f) t (pieces 0 len (drop at run)) ≡ foldl (tallied f) t₀ (pieces count len run) = rw e at r.same in
-      s
+-- the next record lies within what is left of the run, and the others behind it
+pub next_within : (n i w l : ℕ) → i < n → (n - i) * w ≤ l → w ≤ l
+next_within n i w l below held = omega (arith, mul_step (n - i) w (omega arith))
 
-  module _ (left at : ℕ) (t : Tally) (r : Running f len run count t₀ left at t) (more : 0 < left) where
-    -- the next record lies within the run
-    pub next_in : at + len ≤ length run
-    next_in = omega (arith, r.within, mul_step left len more)
+pub rest_within : (n i w l : ℕ) → i < n → (n - i) * w ≤ l → (n - (i + 1)) * w ≤ l - w
+rest_within n i w l below held =
+    let e : n - i - 1 ≡ n - (i + 1) = omega arith in
+    omega (arith, rw e at (mul_step (n - i) w (omega arith)))
 
-    rest : pieces left len (drop at run) ≡ take len (drop at run) ∷ pieces (left - 1) len (drop (at + len) run)
-    rest = rw (pieces_step left len (drop at run) more, drop-drop len at run)
+-- a turn of the loop: one record less to count, and each count higher by one at most
+pub turned : (f n i w : ℕ) (t t' all : Tally) (s rest : Bytes) → i < n → t' ≡ tallied f t (take w s) → rest ≡ drop w s
+    → foldl (tallied f) t (pieces (n - i) w s) ≡ all → foldl (tallied f) t' (pieces (n - (i + 1)) w rest) ≡ all
+turned f n i w t t' all s rest below e r same =
+    let m : n - i ≡ (n - (i + 1)) + 1 = omega arith in
+    rw (e, r) (sym (first f (n - i) (n - (i + 1)) w t s m) ∙ same)
 
-    turn : Running f len run count t₀ (left - 1) (at + len) (tallied f t (take len (drop at run)))
-    turn =
-        record {
-          few = omega (arith, r.few);
-          within = omega (arith, r.within, mul_step left len more);
-          counts = counts_with f t (take len (drop at run)) (2 ^ 32 + (count - left)) (2 ^ 32 + (count - (left - 1))) r.counts (omega (arith, r.few));
-          same = rw rest at r.same;
-        }
+pub counts_turned : (f i : ℕ) (t t' : Tally) (p : Bytes) → t' ≡ tallied f t p → CountsUpTo t (2 ^ 32 + i) → CountsUpTo t' (2 ^ 32 + (i + 1))
+counts_turned f i t t' p e u = rw e (counts_with f t p (2 ^ 32 + i) (2 ^ 32 + (i + 1)) u (omega arith))
 
-    -- a turn of the loop: what the tally becomes by the n bytes of a record
-    pub turned : (t' : Tally) (n : ℕ) → t' ≡ tallied f t (take n (drop at run)) → n ≡ len → Running f len run count t₀ (left - 1) (at + len) t'
-    turned t' n e g = rw (e, g) turn
+pub ruleset running = (fold_none, one_few, counts_up, next_within, rest_within, return_small)
