@@ -2,7 +2,7 @@
 ghost use Rattle.std.specs.Prelude.{◌≡◌, Bool};
 ghost use Rattle.fields.specs.Bytes.{Bytes};
 ghost use Rattle.fields.specs.Text.{cut};
-ghost use Rattle.sheet.specs.Sheet.{lines, kind, lowest, highest, user_id, record_id};
+ghost use Rattle.sheet.specs.Sheet.{lines};
 ghost use Rattle.sheet.specs.Keeping.{contains_class, names_record, keeps_class, keeps_record, search_of};
 
 use crate::{Kind, Lines};
@@ -26,7 +26,7 @@ trait Sought {
 #[derive(Clone, Copy, Debug, PartialEq, Eq)]
 struct Class(u8);
 
-#[tactic(auto, unfolding(crate::specs::Keeping::contains_class, crate::specs::Sheet::kind, crate::specs::Sheet::lowest, crate::specs::Sheet::highest))]
+#[tactic(auto, unfolding(crate::specs::Keeping::contains_class))]
 impl Sought for Class {
     ghost is_kept_by = { λ c line. contains_class line c.0 };
 
@@ -48,7 +48,7 @@ struct Record<'a> {
     id: u16,
 }
 
-#[tactic(auto, unfolding(crate::specs::Keeping::names_record, crate::specs::Sheet::kind, crate::specs::Sheet::user_id, crate::specs::Sheet::record_id))]
+#[tactic(auto, unfolding(crate::specs::Keeping::names_record))]
 impl<'a> Sought for Record<'a> {
     ghost is_kept_by = { λ r line. names_record line (cut r.user.now) r.id };
 
@@ -98,6 +98,7 @@ pub(crate) fn search_class(sheet: &[u8], class: u8) -> Searched
 }
 
 // Whether some line contains a class. Does not check the sheet.
+#[tactic(auto, unfolding(crate::specs::Keeping::keeps_class, crate::specs::Keeping::search_of))]
 pub(crate) fn holds_class(sheet: &[u8], class: u8) -> bool
     ensures { result ≡ keeps_class sheet.now class }
 {
@@ -105,6 +106,7 @@ pub(crate) fn holds_class(sheet: &[u8], class: u8) -> bool
 }
 
 // Whether some line names a record. Does not check the sheet.
+#[tactic(auto, unfolding(crate::specs::Keeping::keeps_record, crate::specs::Keeping::search_of))]
 pub fn holds_record(sheet: &[u8], user: &[u8], id: u16) -> bool
     ensures { result ≡ keeps_record sheet.now (cut user.now) id }
 {
