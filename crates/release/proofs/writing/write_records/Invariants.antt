@@ -1,5 +1,5 @@
--- What the loop of `writing::write_records` keeps: with the records of the lines that are left the output is what it is to
--- be. Assumes nothing.
+-- What the loop of `writing::write_records` keeps: with the records of the lines that are left the output is what it is
+-- to be. Assumes nothing.
 use Rattle.std.proofs.Common.{◌≡◌, ◌+◌, length, drop}
 use Rattle.std.proofs.lemmas.List.Edits.{sets}
 use Rattle.release.specs.Writing.{records_named}
