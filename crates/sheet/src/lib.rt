@@ -168,7 +168,7 @@ fn in_order(line: &[u8]) -> bool
 fn marked(rest: &[u8]) -> bool
     ensures { result ≡ same (part 0 2 rest.now) (0x4B ∷ 0x53 ∷ []) }
 {
-    rest.starts_with(b"KS")
+    slices::same_bytes(slices::part_at(rest, 0, 2), b"KS")
 }
 
 // Checks a line behind its mark: its kind, its length, and that no low is above its high.
