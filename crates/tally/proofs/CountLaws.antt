@@ -1,14 +1,13 @@
 -- Laws of a tally's counts: what one point adds to a bin, and how far the counts can have come.
 -- Assumes nothing.
-use mathlib.Core.Path.{◌≡◌, refl, sym, ap, ◌∙◌}
-use Prim.Native.Nat.{ℕ, zero, suc, ◌+◌, ◌-◌, ◌^◌, ◌≤◌, ◌<◌}
+use mathlib.Core.Path.{◌≡◌, refl, sym, ◌∙◌}
+use Prim.Native.Nat.{ℕ, ◌+◌, ◌^◌, ◌≤◌, ◌<◌}
 use native.Mathlib.Omega.{arith}
 use mathlib.Core.Bool.{Bool, true, false, cond}
 use mathlib.Core.List.{List, [], ◌∷◌, ◌++◌, foldl, foldl-append}
-use lib.ListN.{length, get_or}
-use mir.Val.{bool_byte}
+use lib.ListN.{length}
 use lib.Dec.{eqb}
-use borrow.Author.Tests.{leb-true, le-leb, eqb-true, eqb-false, eq-eqb, ne_eqb}
+use borrow.Author.Tests.{leb-true, le-leb}
 use Rattle.fields.specs.Bytes.{Bytes}
 use Rattle.points.specs.Raw.{return_of}
 use Rattle.points.proofs.FieldLaws.{flag_le}
@@ -133,32 +132,3 @@ pub more_of : (f : ℕ) (ps qs : List Bytes) → length ps < 2 ^ 32 → tally_mo
 more_of f ps qs h =
     more_fits f (tally_of f ps) qs (fit (tally_of f ps) (counts_few f 4294967295 ps (omega arith)))
     ∙ unfold tally_of in sym (foldl-append (tallied f) no_tally ps qs)
-
--- ---- what the code looks up
-
--- of the twelve numbers only number 5 is 1
-one_at : (i : ℕ) → i < 12 → get_or (0 ∷ 0 ∷ 0 ∷ 0 ∷ 0 ∷ 1 ∷ 0 ∷ 0 ∷ 0 ∷ 0 ∷ 0 ∷ 0 ∷ []) i 0 ≡ bool_byte (eqb i 5)
-one_at zero h = refl
-one_at (suc zero) h = refl
-one_at (suc (suc zero)) h = refl
-one_at (suc (suc (suc zero))) h = refl
-one_at (suc (suc (suc (suc zero)))) h = refl
-one_at (suc (suc (suc (suc (suc zero))))) h = refl
-one_at (suc (suc (suc (suc (suc (suc zero)))))) h = refl
-one_at (suc (suc (suc (suc (suc (suc (suc zero))))))) h = refl
-one_at (suc (suc (suc (suc (suc (suc (suc (suc zero)))))))) h = refl
-one_at (suc (suc (suc (suc (suc (suc (suc (suc (suc zero))))))))) h = refl
-one_at (suc (suc (suc (suc (suc (suc (suc (suc (suc (suc zero)))))))))) h = refl
-one_at (suc (suc (suc (suc (suc (suc (suc (suc (suc (suc (suc zero))))))))))) h = refl
-one_at (suc (suc (suc (suc (suc (suc (suc (suc (suc (suc (suc (suc i)))))))))))) h = absurd (omega arith)
-
--- it is looked at exactly where the return number is the bin's
-equal : (n bin : ℕ) → bin ≤ 5 → (b : Bool) → eqb n bin ≡ b → eqb (n + 5 - bin) 5 ≡ b
-equal n bin h true e = eq-eqb (n + 5 - bin) 5 (omega (arith, eqb-true n bin e))
-equal n bin h false e = ne_eqb (n + 5 - bin) 5 (λ q. eqb-false n bin e (omega (arith, q)))
-
-pub found : (n bin : ℕ) → n < 8 → 1 ≤ bin → bin ≤ 5
-    → get_or (0 ∷ 0 ∷ 0 ∷ 0 ∷ 0 ∷ 1 ∷ 0 ∷ 0 ∷ 0 ∷ 0 ∷ 0 ∷ 0 ∷ []) (n + 5 - bin) 0 ≡ bool_byte (eqb n bin)
-found n bin few low high = one_at (n + 5 - bin) (omega arith) ∙ ap bool_byte (equal n bin high (eqb n bin) refl)
-
-pub ruleset adding = (found)

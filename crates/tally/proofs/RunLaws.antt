@@ -7,10 +7,9 @@ use mathlib.Core.List.{foldl}
 use lib.ListN.{take, drop}
 use Rattle.fields.specs.Bytes.{Bytes, pieces}
 use Rattle.points.proofs.raw.RunLaws.{mul_step}
-use Rattle.points.proofs.raw.RawLaws.{return_small}
 use Rattle.tally.specs.declared.Tally.{Tally}
 use Rattle.tally.specs.Tally.{tallied, CountsUpTo}
-use Rattle.tally.proofs.CountLaws.{one_few, counts_with, counts_up}
+use Rattle.tally.proofs.CountLaws.{counts_with, counts_up}
 
 first : (f n m len : ℕ) (t : Tally) (s : Bytes) → n ≡ m + 1 → foldl (tallied f) t (pieces n len s) ≡ foldl (tallied f) (tallied f t (take len s)) (pieces m len (drop len s))
 unfolding pieces
@@ -39,4 +38,4 @@ turned f n i w t t' all s rest below e r same =
 pub counts_turned : (f i : ℕ) (t t' : Tally) (p : Bytes) → t' ≡ tallied f t p → CountsUpTo t (2 ^ 32 + i) → CountsUpTo t' (2 ^ 32 + (i + 1))
 counts_turned f i t t' p e u = rw e (counts_with f t p (2 ^ 32 + i) (2 ^ 32 + (i + 1)) u (omega arith))
 
-pub ruleset running = (fold_none, one_few, counts_up, next_within, rest_within, return_small)
+pub ruleset running = (fold_none, counts_up, next_within, rest_within)

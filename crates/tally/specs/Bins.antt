@@ -42,6 +42,10 @@ bins_fit b =
 
 -- ---- what the code's helpers use; no public contract cites these
 
+-- a 1 at place 5, among zeros
+unfoldable pub one_among_zeros : List ℕ
+one_among_zeros = 0 ∷ 0 ∷ 0 ∷ 0 ∷ 0 ∷ 1 ∷ 0 ∷ 0 ∷ 0 ∷ 0 ∷ 0 ∷ 0 ∷ []
+
 -- no bin is above n
 pub record BinsUpTo (b : Bins) (n : ℕ) : Type 0 where
   pub first : b.first ≤ n

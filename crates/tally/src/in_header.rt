@@ -11,7 +11,6 @@ use lasfile::header;
 use scaling::Bounds;
 
 // The number of points, and points by return.
-#[tactic(auto, unfolding(crate::specs::Bins::bin_numbers))]
 pub fn put_counts(out: &mut [u8], points: u64, b: Bins)
     ensures { out.new ≡ sets out.old 107 (numbers_bytes 4 (points ∷ bin_numbers b)) }
 {
@@ -24,7 +23,6 @@ pub fn put_counts(out: &mut [u8], points: u64, b: Bins)
 }
 
 // The bounds by their bits.
-#[tactic(auto, unfolding(publicpart::specs::Bounds::bound_numbers))]
 pub fn put_bounds(out: &mut [u8], b: Bounds)
     ensures { out.new ≡ sets out.old 179 (numbers_bytes 8 (bound_numbers b)) }
 {

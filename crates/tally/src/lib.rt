@@ -9,7 +9,7 @@ ghost use Rattle.std.specs.Prelude.{◌≡◌, ◌*◌, ◌^◌, ◌<◌, ◌≤
 ghost use mathlib.Core.List.{foldl};
 ghost use Rattle.fields.specs.Bytes.{pieces};
 ghost use Rattle.points.specs.Raw.{points_of};
-ghost use Rattle.tally.specs.Bins.{BinsUpTo};
+ghost use Rattle.tally.specs.Bins.{one_among_zeros, BinsUpTo};
 ghost use Rattle.tally.specs.Tally.{no_tally, tally_with, tallied, tally_more, counts_fit, CountsUpTo};
 ghost use Rattle.tally.specs.Tally.{tally_bounds};
 
@@ -55,7 +55,6 @@ pub fn fresh() -> Tally
 }
 
 // Whether no count is above what the 4 bytes of a LAS 1.2 header hold.
-#[tactic(auto, unfolding(crate::specs::Tally::counts_fit))]
 fn counts_fit(t: Tally) -> bool
     ensures { result ≡ counts_fit t }
 {
@@ -63,7 +62,6 @@ fn counts_fit(t: Tally) -> bool
 }
 
 // The tally with one point more, which adds `one` to the bins.
-#[tactic(auto, unfolding(crate::specs::Tally::tally_with))]
 fn with_point(t: Tally, one: Bins, p: Stored) -> Tally
     requires { CountsUpTo t (2 ^ 33) × BinsUpTo one 1 }
     ensures { result ≡ tally_with t one p }
@@ -83,18 +81,37 @@ fn count_point(t: &mut Tally, one: Bins, p: Stored)
     *t = with_point(*t, one, p);
 }
 
+// A tally of one's own, lent for one point.
+fn step(t: Tally, one: Bins, p: Stored) -> Tally
+    requires { CountsUpTo t (2 ^ 33) × BinsUpTo one 1 }
+    ensures { result ≡ tally_with t one p }
+{
+    let mut u = t;
+    count_point(&mut u, one, p);
+    u
+}
+
+// The tally with the point of these bytes.
+fn add_point(t: Tally, ones: &[u64; 12], format: u8, point: &[u8]) -> Tally
+    requires { CountsUpTo t (2 ^ 33) × (ones.now ≡ one_among_zeros) }
+    ensures { result ≡ tallied format t point.now }
+{
+    let one = by_return::one_in(ones, raw::return_of(format, point));
+    step(t, one, raw::stored_of(point))
+}
+
 // The tally with the points of a run that holds them all.
 #[tactic(auto, using(crate::proofs::RunLaws::running))]
 fn tally_run(t: Tally, run: &[u8], format: u8, record_length: usize, count: usize) -> Tally
     requires { (count < 2 ^ 32) × (count * record_length ≤ length run.now) × CountsUpTo t (2 ^ 32) }
     ensures { result ≡ foldl (tallied format) t (pieces count record_length run.now) }
 {
+    let ones = by_return::one_among_zeros();
     let mut tally = t;
     let mut rest = run;
     for _i in 0..count {
         let (point, behind) = rest.split_at(record_length);
-        let one = by_return::one_in(raw::return_of(format, point));
-        count_point(&mut tally, one, raw::stored_of(point));
+        tally = add_point(tally, &ones, format, point);
         rest = behind;
     }
     tally
