@@ -12,7 +12,9 @@ use crate::run::Points;
 use fields::{copying, slices};
 use tally::Tally;
 
-// Writes the chosen records of a block to the front of `out`, one behind the other.
+// Writes the chosen records of a block to the front of `out`, one behind the other. It stays a function of its own when
+// compiled, so that its loop keeps what it needs in registers.
+#[inline(never)]
 fn copy_chosen(block: Points<'_>, chosen: &Chosen, out: &mut [u8])
     requires { (chosen.now.count ≤ 64)
         × Places block.record_length block.bytes.now (chosen_of chosen.now)
