@@ -3,7 +3,7 @@ ghost use Rattle.std.specs.Prelude.{◌≡◌};
 ghost use Rattle.publicpart.specs.Bounds.{bound_numbers};
 ghost use Rattle.fields.specs.Refusals.{by_number};
 ghost use Rattle.reader.specs.Header.{Fields, Refused};
-ghost use Rattle.capi.specs.HeaderAnswers.{by_return_numbers, scale_numbers, offset_numbers, found_header, header_numbers};
+ghost use Rattle.capi.specs.HeaderAnswers.{by_return_numbers, scale_numbers, offset_numbers, no_header, found_header, header_numbers};
 
 use fields::refusal::Refusal;
 use reader::header;
@@ -100,18 +100,25 @@ fn found_header(h: header::Header) -> las_header
     }
 }
 
+// The numbers of a refusal: all but its own are 0.
+#[tactic(auto, unfolding(crate::specs::HeaderAnswers::no_header))]
+fn refused_header(number: u64) -> las_header
+    ensures { result ≡ no_header number }
+{
+    las_header {
+        number,
+        ..las_header::default()
+    }
+}
+
 // The numbers of a header.
-#[tactic(auto, unfolding(crate::specs::HeaderAnswers::header_numbers, crate::specs::HeaderAnswers::no_header))]
 impl From<Result<header::Header, Refusal>> for las_header {
     ghost from_gives = { λ answer numbers. numbers ≡ header_numbers (by_number Fields Refused answer) };
 
     fn from(answer: Result<header::Header, Refusal>) -> las_header {
         match answer {
             Ok(header) => found_header(header),
-            Err(refusal) => las_header {
-                number: refusal.number(),
-                ..las_header::default()
-            },
+            Err(refusal) => refused_header(refusal.number()),
         }
     }
 }

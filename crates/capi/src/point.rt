@@ -4,7 +4,7 @@ ghost use Rattle.fields.specs.Refusals.{by_number};
 ghost use Rattle.points.specs.Points.{Fields, Refused};
 ghost use Rattle.reader.specs.OnePoint.{At};
 ghost use Rattle.reader.specs.OnePoint as one;
-ghost use Rattle.capi.specs.PointAnswers.{found_point, point_numbers, decoded_numbers, given_point};
+ghost use Rattle.capi.specs.PointAnswers.{found_point, no_point, point_numbers, decoded_numbers, given_point};
 
 use fields::refusal::Refusal;
 use points::Point;
@@ -65,34 +65,37 @@ fn found_point(place: usize, point: Point) -> las_point
     }
 }
 
+// The numbers of a refusal: all but its own are 0.
+#[tactic(auto, unfolding(crate::specs::PointAnswers::no_point))]
+fn refused_point(number: u64) -> las_point
+    ensures { result ≡ no_point number }
+{
+    las_point {
+        number,
+        ..las_point::default()
+    }
+}
+
 // The numbers of one point of a file.
-#[tactic(auto, unfolding(crate::specs::PointAnswers::point_numbers, crate::specs::PointAnswers::no_point))]
 impl From<Result<(usize, Point), Refusal>> for las_point {
     ghost from_gives = { λ answer numbers. numbers ≡ point_numbers (by_number (λ x. At x.0 x.1) one.Refused answer) };
 
     fn from(answer: Result<(usize, Point), Refusal>) -> las_point {
         match answer {
             Ok((place, point)) => found_point(place, point),
-            Err(refusal) => las_point {
-                number: refusal.number(),
-                ..las_point::default()
-            },
+            Err(refusal) => refused_point(refusal.number()),
         }
     }
 }
 
 // The numbers of a point that was decoded, which lies at no place.
-#[tactic(auto, unfolding(crate::specs::PointAnswers::decoded_numbers, crate::specs::PointAnswers::no_point))]
 impl From<Result<Point, Refusal>> for las_point {
     ghost from_gives = { λ answer numbers. numbers ≡ decoded_numbers (by_number Fields Refused answer) };
 
     fn from(answer: Result<Point, Refusal>) -> las_point {
         match answer {
             Ok(point) => found_point(0, point),
-            Err(refusal) => las_point {
-                number: refusal.number(),
-                ..las_point::default()
-            },
+            Err(refused) => refused_point(refused.number()),
         }
     }
 }

@@ -83,17 +83,26 @@ fn marks_for(file: &[u8], t: Tally, b: Bounds) -> [bool; 12]
     ]
 }
 
-// Mends a file in place: number of points, points by return and bounds become those of the points that are there. Says
-// of each of the twelve fields whether its bytes changed: number of points, points by return 1 to 5, max X, min X, max
-// Y, min Y, max Z, min Z.
-pub fn mend(file: &mut [u8]) -> Result<[bool; 12], Refusal>
-    ensures { (mended_of result, file.new) ≡ mend file.old }
+// Mends a file that can be mended, and says which of the twelve fields changed.
+fn mend_fields(file: &mut [u8]) -> [bool; 12]
+    requires { mend_verdict file.old ≡ Passes }
+    ensures { (record { verdict = Passes; marks = result }, file.new) ≡ mend file.old }
 {
-    lasfile::check_mendable(file)?;
     let tally = tally_there(file);
     let bounds = tally::tally_bounds(tally, Scaling::read(file));
     let marks = marks_for(file, tally, bounds);
     in_header::put_counts(file, tally.count, tally.bins);
     in_header::put_bounds(file, bounds);
-    Ok(marks)
+    marks
+}
+
+// Mends a file in place: number of points, points by return and bounds become those of the points that are there. Says
+// of each of the twelve fields whether its bytes changed: number of points, points by return 1 to 5, max X, min X, max
+// Y, min Y, max Z, min Z.
+#[tactic(auto, unfolding(crate::specs::Mend::mend, crate::specs::Mend::mend_by))]
+pub fn mend(file: &mut [u8]) -> Result<[bool; 12], Refusal>
+    ensures { (mended_of result, file.new) ≡ mend file.old }
+{
+    lasfile::check_mendable(file)?;
+    Ok(mend_fields(file))
 }
