@@ -18,7 +18,6 @@ pub fn part_at(s: &[u8], at: usize, n: usize) -> &[u8]
     }
 }
 
-#[tactic(auto, using(crate::proofs::ByteLaws::pointwise_same))]
 pub fn same_bytes(a: &[u8], b: &[u8]) -> bool
     ensures { result ≡ same a.now b.now }
 {

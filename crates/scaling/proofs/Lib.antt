@@ -1,2 +1,1 @@
 pub mod ScalingLaws
-pub mod Ends

@@ -21,7 +21,6 @@ pub fn bits_of(x: f64) -> u64
 }
 
 // Stored value times scale, rounded once, plus offset, rounded once.
-#[tactic(auto, unfolding(crate::specs::Scaling::coordinate_of))]
 pub fn coordinate(stored: i32, scale: f64, offset: f64) -> f64
     ensures { result ≡ coordinate_of stored scale offset }
 {
@@ -29,7 +28,6 @@ pub fn coordinate(stored: i32, scale: f64, offset: f64) -> f64
 }
 
 // The coordinate, with scale, offset and result by their bits.
-#[tactic(auto, unfolding(crate::specs::Scaling::coordinate_bits))]
 pub fn coordinate_bits(stored: i32, scale: u64, offset: u64) -> u64
     ensures { result ≡ coordinate_bits stored (of_bits binary64 scale) (of_bits binary64 offset) }
 {

@@ -8,7 +8,6 @@ ghost use Rattle.scaling.specs.Scaling.{double_at, scaling_of, good_scale, good_
 
 use crate::doubles::{bits_of, coordinate};
 
-#[tactic(auto, unfolding(crate::specs::Scaling::double_at))]
 fn double_at(s: &[u8], at: usize) -> f64
     ensures { result ≡ double_at s.now at }
 {
@@ -24,14 +23,12 @@ const LOWEST_OFFSET: f64 = -1099511627776.0;
 // 2^40
 const HIGHEST_OFFSET: f64 = 1099511627776.0;
 
-#[tactic(auto, using(crate::proofs::Ends::ends), unfolding(crate::specs::Scaling::good_scale, crate::specs::Scaling::within))]
 fn good_scale(x: f64) -> bool
     ensures { result ≡ good_scale x }
 {
     (LOWEST_SCALE <= x) & (x <= HIGHEST_SCALE)
 }
 
-#[tactic(auto, using(crate::proofs::Ends::ends), unfolding(crate::specs::Scaling::good_offset, crate::specs::Scaling::within))]
 fn good_offset(x: f64) -> bool
     ensures { result ≡ good_offset x }
 {
@@ -81,7 +78,6 @@ pub struct Bounds {
 
 impl Scaling {
     // The record in a header; bytes past the end count as 0.
-    #[tactic(auto, using(crate::proofs::ScalingLaws::scaling_at))]
     pub fn read(header: &[u8]) -> Scaling
         ensures { result ≡ scaling_of header.now }
     {
@@ -96,7 +92,6 @@ impl Scaling {
     }
 
     // Whether all six are in their ranges: number 10 is given where they are not. A NaN is in none.
-    #[tactic(auto, unfolding(crate::specs::Scaling::good_scaling))]
     pub fn is_good(self) -> bool
         ensures { result ≡ good_scaling self }
     {
@@ -109,7 +104,6 @@ impl Scaling {
     }
 
     // The coordinates of a point's three stored values.
-    #[tactic(auto, unfolding(crate::specs::Scaling::coordinates_of))]
     pub fn coordinates(self, x: i32, y: i32, z: i32) -> Coordinates
         ensures { result ≡ coordinates_of self x y z }
     {
@@ -121,7 +115,6 @@ impl Scaling {
     }
 
     // The bounds by their bits: the coordinates of the largest stored values, and of the smallest.
-    #[tactic(auto, unfolding(crate::specs::Scaling::bounds_of, crate::specs::Scaling::coordinates_of, crate::specs::Scaling::coordinate_bits))]
     pub fn bounds_of(self, e: Extremes) -> Bounds
         ensures { result ≡ bounds_of self e }
     {
