@@ -13,7 +13,7 @@ use Rattle.fields.specs.Bytes.{Bytes}
 use Rattle.fields.proofs.CheckLaws.{then_passes, then_passed, then_fails, none_fails}
 use Rattle.fields.specs.Checks.{first_failing, Verdict, Passes, Fails}
 use Rattle.lasfile.specs.FileChecks.{file_verdict}
-use Rattle.geokeys.specs.Places.{DirectoryAt, Place, place_in, place_if, Searches}
+use Rattle.geokeys.specs.Places.{DirectoryAt, place_in, place_if, Searches}
 use Rattle.geokeys.specs.GeoKeys.{GeoKey, Refused, or_later, first, projection_place, payload_at, key_count, directory_checks, entries, answer_if, either, payload_in, directory_of, directory_verdict, entries_in, searched, search_verdict}
 
 module _ {ℓ} {A : Type ℓ} (p : A → Bool) (x : A) (xs : List A) where
