@@ -7,7 +7,7 @@ use Rattle.fields.specs.Checks.{Passes}
 use Rattle.lasfile.specs.HeaderFields.{format, record_length}
 use Rattle.lasfile.specs.FileChecks.{file_verdict}
 use Rattle.publicpart.specs.Public.{public_of}
-use Rattle.publicpart.specs.Release.{room_or, Answer, Released, Short, Refused}
+use Rattle.publicpart.specs.Release.{room_or, Answer}
 use Rattle.publicpart.specs.Cutting.{kept_together, cutting_list, release_by_list, Listed}
 use Rattle.publicpart.specs.declared.Span.{Span}
 use Rattle.publicpart.specs.Cutting as listed

@@ -10,7 +10,12 @@ use lasfile::header;
 use publicpart::{ReleaseError, Released, Span};
 
 // What a release answers for an output of so many bytes, where the list has room for all lines, and so many are kept.
-fn decide_room(file: &[u8], sheet: &[u8], room: usize, lines: usize) -> Result<Released, ReleaseError>
+fn decide_room(
+    file: &[u8],
+    sheet: &[u8],
+    room: usize,
+    lines: usize,
+) -> Result<Released, ReleaseError>
     requires { Counted sheet.now file.now lines }
     ensures { DecidesRoom sheet.now file.now room (answer_of result) }
 {

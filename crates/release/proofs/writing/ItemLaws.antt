@@ -1,14 +1,13 @@
 -- Laws of what the lines of a list name: each by itself, and all that the cutting list of a file names.
 -- Assumes nothing.
 use mathlib.Core.Path.{◌≡◌, refl, sym, ap, ◌∙◌}
-use Prim.Native.Nat.{ℕ, suc, ◌+◌, ◌-◌, ◌≤◌, ◌<◌, min}
+use Prim.Native.Nat.{ℕ, ◌+◌, ◌-◌, ◌≤◌, ◌<◌, min}
 use native.Mathlib.Nat.{eq-zero-or-pos}
 use native.Mathlib.Omega.{arith}
 use mathlib.Core.Logic.{◌⊎◌, inl, inr}
-use mathlib.Core.List.{List, [], ◌∷◌, ◌++◌, map, append_assoc}
+use mathlib.Core.List.{List, [], ◌++◌, map}
 use lib.ListN.{length, take, drop, get_or, length-drop, length-append}
 use lib.Seq.{sets, take_all, length-sets}
-use borrow.Author.Tests.{lt-ltb, le-ltb}
 use Rattle.fields.specs.Lists.{kept}
 use Rattle.fields.specs.Bytes.{Bytes, part, join}
 use Rattle.fields.proofs.ListLaws.{map-map}
@@ -19,7 +18,7 @@ use Rattle.publicpart.proofs.PublicLaws.{contents_records, public_records}
 use Rattle.publicpart.specs.declared.Span.{Span}
 use Rattle.publicpart.specs.declared.Released.{Released}
 use Rattle.publicpart.specs.Cutting.{span, named, record_named, payload_lines, record_lines, point_lines}
-use Rattle.publicpart.proofs.CuttingLaws.{payload_records, point_lines_name, length-record_lines}
+use Rattle.publicpart.proofs.CuttingLaws.{payload_records, point_lines_name}
 use Rattle.release.specs.Writing.{record_from, records_named, points_named, items}
 use Rattle.std.proofs.Common.{drop-cons}
 use Rattle.std.proofs.lemmas.Grind.{common_steps}

@@ -1,9 +1,7 @@
 -- `mend::mend_fields` meets its contract. Assumes nothing.
-use mathlib.Core.Path.{◌≡◌, sym, ap, ◌∙◌}
+use mathlib.Core.Path.{sym, ap, ◌∙◌}
 use native.Mathlib.Omega.{arith}
 use Rattle.fields.specs.Bytes.{AllBytes}
-use Rattle.fields.specs.Checks.{Passes}
-use Rattle.lasfile.specs.FileChecks.{mend_verdict}
 use Rattle.lasfile.proofs.Passed.{mendable}
 use Rattle.tally.specs.Tally.{tally_bounds}
 use Rattle.editor.proofs.MendLaws.{counts_low, marks_are, mend_accepted, stored}

@@ -1,7 +1,7 @@
 -- `by_list::decide` meets its contract. Assumes nothing.
 use mathlib.Core.Path.{refl}
 use Rattle.std.proofs.Common.{rules}
-use Rattle.publicpart.specs.Cutting.{Lines, Refused}
+use Rattle.publicpart.specs.Cutting.{Lines}
 use Rattle.release.proofs.by_list.DecideLaws.{counted_by, decided_room, decided_refused}
 use Rattle.release.proofs.by_list.decide.Goals as goal
 

@@ -1,13 +1,11 @@
 -- `by_list::release_by_list` meets its contract: what the calls require, and that together they do what is to be done,
 -- is `ByListLaws.antt`'s. Assumes nothing.
-use mathlib.Core.Path.{◌≡◌, refl, sym, ap, ◌∙◌}
-use Prim.Native.Nat.{ℕ}
+use mathlib.Core.Path.{◌≡◌, refl}
 use native.Mathlib.Omega.{arith}
-use lib.ListN.{take}
 use Rattle.std.proofs.Common.{rules}
 use Rattle.fields.specs.Bytes.{AllBytes}
 use Rattle.publicpart.specs.Answers.{taken}
-use Rattle.publicpart.specs.Cutting.{cutting_lines, fill, release_by_list}
+use Rattle.publicpart.specs.Cutting.{release_by_list}
 use Rattle.release.proofs.by_list.ByListLaws.{lines_fit, all_put, items_fit, answer_fits, together, as_they_were}
 use Rattle.release.proofs.by_list.release_by_list.Goals.{In_ok-released, After-fill_list}
 use Rattle.release.proofs.by_list.release_by_list.Goals as goal

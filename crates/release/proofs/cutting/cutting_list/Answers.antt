@@ -1,7 +1,6 @@
 -- `cutting::cutting_list` meets its contract. Assumes nothing.
-use mathlib.Core.Path.{ap, ◌∙◌, refl}
 use Rattle.std.proofs.Common.{rules}
-use Rattle.publicpart.specs.Cutting.{Lines, Refused}
+use Rattle.publicpart.specs.Cutting.{Lines}
 use Rattle.release.proofs.cutting.ListLaws.{has_room, is_cutting, as_it_was}
 use Rattle.release.proofs.cutting.cutting_list.Goals as goal
 
