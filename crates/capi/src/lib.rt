@@ -10,9 +10,7 @@ pub mod vlr;
 ghost use Rattle.std.specs.Prelude.{◌≡◌};
 ghost use Rattle.capi.specs.Interface.{las_level, las_check_file, las_check_sheet, las_read_header, las_vlr_step, las_point_at, las_decode, las_encode, las_coordinate, las_class_kept, las_class_test, las_record_kept, las_geokey_find, las_geokey_halve, las_release, las_cutting_list, las_release_by_list, las_mend};
 
-use crate::answers::{
-    las_class_line, las_kept, las_listed, las_mended, las_released, number_of,
-};
+use crate::answers::{las_class_line, las_kept, las_listed, las_mended, las_released, number_of};
 use crate::header::las_header;
 use crate::point::las_point;
 use crate::vlr::{las_geokey, las_geokey_read, las_record};
@@ -20,8 +18,8 @@ use editor::mend::mend;
 use geokeys::find;
 use geokeys::halving::find_by_halving;
 use lasfile::check_file;
-use points::{Point, decode};
 use points::encoding::encode;
+use points::{Point, decode};
 use publicpart::Span;
 use reader::cursor::VlrCursor;
 use reader::header::read_header;
