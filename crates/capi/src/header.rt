@@ -38,6 +38,7 @@ pub struct las_header {
     pub bounds: [u64; 6],
 }
 
+// (These arrays are the layout that C reads.)
 fn by_return_numbers(b: header::ByReturn) -> [u64; 5]
     ensures { result ≡ by_return_numbers b }
 {

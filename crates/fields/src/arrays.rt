@@ -11,10 +11,8 @@ pub fn put_numbers(out: &mut [u8], at: usize, width: usize, numbers: &[u64])
     ensures { out.new ≡ sets out.old at (numbers_bytes width numbers.now) }
 {
     let mut to = least(at, out.len());
-    let mut i = 0;
-    while i < numbers.len() {
-        put_number(out, to, width, numbers[i]);
+    for number in numbers {
+        put_number(out, to, width, *number);
         to += least(width, out.len() - to);
-        i += 1;
     }
 }

@@ -56,7 +56,8 @@ fn is_projection(vlr: &[u8], id: u64) -> bool
     named & (number_at(vlr, RECORD_ID, 2) == id)
 }
 
-// The place of the first such record.
+// The place of the first such record. (It and `find_entry` walk different things: records of a file, entries of a
+// directory.)
 fn find_projection(file: &[u8], id: u64) -> Option<usize>
     ensures { (place_in result ≡ projection_place file.now id) × IfSome result (λ at. at < 2 ^ 50) }
 {

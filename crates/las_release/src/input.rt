@@ -26,7 +26,8 @@ fn read_at<R: Read>(reader: &mut R, buf: &mut [u8], at: usize) -> io::Result<usi
     reader.read(&mut buf[at..])
 }
 
-// Reads until the end or until buf is full, and answers how many bytes it read. A short read is not the end.
+// Reads until the end or until buf is full, and answers how many bytes it read. A short read is not the end. (By hand:
+// of bytes read before an error, the library's read_to_end says less. No range says how many turns there are.)
 fn read_to_end<R: Read>(reader: &mut R, buf: &mut [u8]) -> io::Result<usize>
     ensures within { IfOk result (λ n. n ≤ length buf.new) }
     ensures bytes { IfOk result

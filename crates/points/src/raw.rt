@@ -17,7 +17,7 @@ pub const SHORTEST: usize = 20;
 
 const TOO_MANY: usize = 4294967296;
 
-// The stored X, Y and Z of a point.
+// The stored X, Y and Z of a point. (Not one generic type with `scaling::Coordinates`: names say which is meant.)
 #[derive(Clone, Copy, Debug, PartialEq, Eq)]
 pub struct Stored {
     pub x: i32,
@@ -33,6 +33,7 @@ pub fn class_in(format: u8, byte: u8) -> u8
     byte % 32
 }
 
+// (Three flags, and not one function of a bit: each name is one of LAS 1.2, and each body one line.)
 #[tactic(auto, unfolding(crate::specs::Raw::synthetic_in, crate::specs::Raw::bit, crate::specs::Raw::bits))]
 pub fn synthetic_in(format: u8, byte: u8) -> bool
     ensures { result ≡ synthetic_in format byte }

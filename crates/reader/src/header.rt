@@ -44,7 +44,8 @@ pub struct FileLayout {
     pub point_count: u64,
 }
 
-// The stated number of points of each return number.
+// The stated number of points of each return number. (Not the `Bins` of tally: those are counted, and this crate stands
+// below tally.)
 #[derive(Clone, Copy)]
 pub struct ByReturn {
     pub first: u64,

@@ -28,7 +28,7 @@ pub(crate) struct BoxIndex {
     z: Axis,
 }
 
-// A stored value as a number from 0 on, in the same order.
+// A stored value as a number from 0 on, in the same order. (The library has no name for it.)
 fn key(z: i32) -> u64
     ensures { result ≡ key z }
 {

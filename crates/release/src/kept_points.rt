@@ -111,7 +111,8 @@ impl Keeper {
         self.leave_in_boxes(block, chosen);
     }
 
-    // The same. Where there is no box, none is asked.
+    // The same. Where there is no box, none is asked: a switch once for a block. A closure that is chosen here would be
+    // called for each point.
     pub(crate) fn choose(&self, block: Points<'_>, chosen: &mut Chosen)
         requires { block.count ≤ 64 }
         ensures { Chooses (keeps_by self.now.table self.now.boxes block.entry.format) block.entry chosen.new }
@@ -151,7 +152,7 @@ impl Keeper {
         n
     }
 
-    // Counts the kept points. Where there is no box, none is asked.
+    // Counts the kept points. Where there is no box, none is asked: a switch once for all, as above.
     pub(crate) fn count(&self, points: Points<'_>) -> usize
         ensures { result
             ≡ length (kept_of (keeps_by self.now.table self.now.boxes points.entry.format) points.entry) }

@@ -23,6 +23,7 @@ const LOWEST_OFFSET: f64 = -1099511627776.0;
 // 2^40
 const HIGHEST_OFFSET: f64 = 1099511627776.0;
 
+// (Not one function of the two ends with `good_offset`: each is named as its definition is, and has one use of its own.)
 fn good_scale(x: f64) -> bool
     ensures { result ≡ good_scale x }
 {
@@ -46,6 +47,7 @@ pub struct Scaling {
     pub z_offset: f64,
 }
 
+// The coordinates of a point, in the file's unit. (The stored values are `points::raw::Stored`.)
 #[derive(Clone, Copy, Debug, PartialEq)]
 pub struct Coordinates {
     pub x: f64,

@@ -17,7 +17,7 @@ fn keeps_byte(sheet: &[u8], format: u8, byte: u8) -> bool
 }
 
 // Which points of a format a sheet keeps: entry b is for classification byte b. It is made once for a release, so that
-// no point is looked up in the sheet.
+// no point is looked up in the sheet. An array and no type of its own: its index is the byte, and its length is known.
 pub fn class_table(sheet: &[u8], format: u8) -> [bool; 256]
     ensures { TableOf sheet.now format result }
 {

@@ -63,7 +63,8 @@ impl<'a> Sought for Record<'a> {
     }
 }
 
-// What a search comes to: whether a line keeps what is looked for, and how many lines were looked at.
+// What a search comes to: whether a line keeps what is looked for, and how many lines were looked at. No Option: the
+// lines are said of what is not kept too, and both come back in one register.
 #[derive(Clone, Copy, Debug, PartialEq, Eq)]
 pub struct Searched {
     pub found: bool,
