@@ -67,6 +67,7 @@ fn bound_numbers(b: scaling::Bounds) -> [u64; 6]
     [b.max_x, b.min_x, b.max_y, b.min_y, b.max_z, b.min_z]
 }
 
+// (No `From`: it makes an answer with the number 0, of one part of what `From` takes.)
 fn found_header(h: header::Header) -> las_header
     ensures { result ≡ found_header h }
 {

@@ -37,6 +37,7 @@ pub struct las_point {
 }
 
 // The numbers of a point and of its record's place.
+// (No `From`: it takes several values.)
 fn found_point(place: usize, point: Point) -> las_point
     ensures { result ≡ found_point place point }
 {

@@ -48,6 +48,7 @@ pub struct las_geokey_read {
 }
 
 // The numbers of a record, and of the cursor after it.
+// (No `From`: it takes several values.)
 fn found_record(places: RecordPlaces, next: VlrCursor) -> las_record
     ensures { result ≡ found_record places next }
 {
@@ -81,6 +82,7 @@ impl From<Result<(RecordPlaces, VlrCursor), Refusal>> for las_record {
     }
 }
 
+// (No `From`: it takes several values.)
 fn geokey(number: u64, location: u64, value: u64, length: u64) -> las_geokey
     ensures { result ≡ record { number = number; location = location; value = value; length = length } }
 {

@@ -39,6 +39,7 @@ fn tally_there(file: &[u8]) -> Tally
 }
 
 // Whether the bytes of a field are not those of a number.
+// (Place, width and file stay three, as in `fields::numbers`: they meet for one call.)
 fn field_differs(file: &[u8], at: usize, width: usize, n: u64) -> bool
     requires { (width ≤ 8) × (at + width ≤ length file.now) × (n < 256 ^ width) }
     ensures { result ≡ differs file.now at width n }

@@ -5,6 +5,8 @@ ghost use Rattle.std.proofs.Math.Seq.{paste};
 ghost use Rattle.std.proofs.lemmas.List.Edits.{sets};
 
 // Copies byte by byte.
+// (The functions of this file are no twins: each moves blocks of its own size, and calls the next. Bytes and places
+// stay parameters of their own, and what must be there is asked: it is of two slices, and `copy` makes sure of it.)
 fn copy_bytes(src: &[u8], n: usize, dst: &mut [u8], at: usize)
     requires { (n ≤ length src.now) × (at + n ≤ length dst.old) }
     ensures { dst.new ≡ paste dst.old at src.now n }

@@ -18,6 +18,7 @@ pub fn fits_in(length: usize, at: usize, n: usize) -> bool
 }
 
 // The smaller of the two.
+// (The library's, under the name of old and with one fact, which proofs cite.)
 pub fn least(a: usize, b: usize) -> usize
     ensures { result ≡ min a b }
 {
@@ -57,6 +58,7 @@ fn number_by_bytes(bytes: &[u8]) -> u64
 
 // The number of the `width` bytes at a place; of the first 8 where there are more. Whether all are there is asked
 // first: the width is then a constant where the caller's is.
+// (Bytes, place and width stay three parameters: they meet for one call, here and at all who call it.)
 #[tactic(auto, using(crate::proofs::ByteLaws::reading), unfolding(crate::specs::Bytes::part))]
 pub fn number_at(s: &[u8], at: usize, width: usize) -> u64
     ensures { (result ≡ num (part at (min width 8) s.now)) × (result < 256 ^ min width 8) }

@@ -18,6 +18,7 @@ pub fn part_at(s: &[u8], at: usize, n: usize) -> &[u8]
     }
 }
 
+// Whether two runs are the same. (The library's, with `same` for its answer.)
 pub fn same_bytes(a: &[u8], b: &[u8]) -> bool
     ensures { result ≡ same a.now b.now }
 {

@@ -69,6 +69,8 @@ fn find_projection(file: &[u8], id: u64) -> Option<usize>
     None
 }
 
+// (That `at + 54` does not wrap is asked, and no type of places holds it: places of a walk are plain numbers in four
+// crates, and each walk knows its own end. Place and file stay two: they meet for one call.)
 pub(crate) fn payload_at(file: &[u8], at: usize) -> &[u8]
     requires { at + 54 < 2 ^ 64 }
     ensures { result.now ≡ payload_at file.now at }
@@ -101,6 +103,7 @@ fn checked_at(file: &[u8], at: usize) -> Result<usize, Refusal>
 }
 
 // The entries of a directory that has room for as many as it states.
+// (The room is asked, and no type of directories holds it: `directory_at` makes sure of it for both lookups.)
 pub(crate) fn entries(directory: &[u8]) -> &[[u8; ENTRY]]
     requires { 8 + 8 * key_count directory.now ≤ length directory.now }
     ensures { (result.now ≡ entries directory.now) × (length result.now < 2 ^ 16) }
@@ -195,6 +198,7 @@ pub(crate) fn find_directory(file: &[u8]) -> Result<usize, Refusal>
 }
 
 // The value of a key: it checks the file, then 40 to 46.
+// (File and key stay two: C gives both, and nothing keeps them together.)
 pub fn find(file: &[u8], key: u16) -> Result<KeyValue, Refusal>
     ensures { by_number geokey_of Refused result ≡ lookup file.now key }
 {

@@ -129,6 +129,7 @@ pub(crate) fn has_shape(format: u8, record_length: u16, n: usize) -> bool
 // The fields of a point record, or 12. It is inlined with `shared_of`, so that the fields go to where its caller has
 // them and not through memory first; the shared fields are read before the others, which takes less time than behind
 // them.
+// (Format and record length stay two numbers: C gives both, and 12 says that they do not go together.)
 #[inline(always)]
 pub fn decode(format: u8, record_length: u16, bytes: &[u8]) -> Result<Point, Refusal>
     ensures { by_number Fields Refused result ≡ decoded format record_length bytes.now }

@@ -55,6 +55,7 @@ pub fn withheld_in(format: u8, byte: u8) -> bool
     byte / 128 % 2 == 1
 }
 
+// (Format and point stay two: the bytes of a point do not say their format.)
 #[tactic(auto, unfolding(crate::specs::Raw::class_byte))]
 pub fn class_byte(format: u8, point: &[u8]) -> u8
     ensures { result ≡ class_byte format point.now }

@@ -16,6 +16,7 @@ use publicpart::Span;
 // Puts the first n lines of a file into a list. Each turn puts the line of what is at hand, kept or not; where that is
 // not kept, the next turn puts its own over it. So no turn branches on whether a point is kept, which no processor can
 // guess. The loop ends with the last kept thing, and no line behind the last is touched.
+// (File and keeper stay two: the keeper owns what it holds, and the file is lent.)
 fn fill_kept(file: &[u8], sheet: &[u8], keeper: &Keeper, n: usize, list: &mut [Span])
     requires { (n ≤ length (kept_lines sheet.now keeper.now file.now)) × (n ≤ length list.old) }
     ensures { list.new ≡ fill (take n (kept_lines sheet.now keeper.now file.now)) list.old }

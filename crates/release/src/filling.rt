@@ -29,6 +29,7 @@ pub struct Filling {
 }
 
 // The same, with the line of the thing at hand.
+// (`Ready` and `HasLine` are asked, and are no fields: they speak of the file, which `Filling` does not hold.)
 fn with_line(file: &[u8], t: Filling) -> Filling
     requires { Ready file.now t }
     ensures { result ≡ with_line file.now t }

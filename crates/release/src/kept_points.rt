@@ -65,6 +65,9 @@ impl Keeper {
 
     // Chooses the records of a block that the table keeps. Each place is put behind those chosen before, and stays
     // there only where its record is kept.
+    // (`block.count ≤ 64` is asked, and no type of blocks holds it: `Points` are a run of any length, and it is
+    // asked in this file and its one caller alone. Block and chosen stay two: one is read, the other filled anew
+    // for each block.)
     fn choose_by_table(&self, block: Points<'_>, chosen: &mut Chosen)
         requires { block.count ≤ 64 }
         ensures { Chooses (in_table self.now.table block.entry.format) block.entry chosen.new }
@@ -82,6 +85,8 @@ impl Keeper {
     // Leaves of the chosen records those that lie in a box. Each place is put behind those that stay, and stays there
     // only where its record lies in one. No record is shorter than 20 bytes; that is asked so that the compiler knows
     // it, and makes no code for stored values cut short.
+    // (That there is a box is asked, and no type of keepers with boxes holds it: `no_box` decides it once for all
+    // three.)
     fn leave_in_boxes(&self, block: Points<'_>, chosen: &mut Chosen)
         requires { (chosen.old.count ≤ 64)
             × Places block.record_length block.bytes.now (take chosen.old.count chosen.old.places)

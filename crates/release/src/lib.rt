@@ -64,6 +64,8 @@ pub(crate) fn check_both(file: &[u8], sheet: &[u8]) -> Result<(), Refusal>
 }
 
 // Releases what a sheet keeps of a file. Everything that can refuse is decided before the first byte is written.
+// (File, sheet, output and list stay parameters of their own in this crate: C lends each by itself, and a contract
+// says what each becomes.)
 pub fn release(file: &[u8], sheet: &[u8], out: &mut [u8]) -> Result<Released, ReleaseError>
     ensures { (answer_of result, out.new) ≡ release sheet.now file.now out.old }
 {

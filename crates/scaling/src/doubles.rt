@@ -14,6 +14,7 @@ pub fn double_of(bits: u64) -> f64
 }
 
 // The bits of a double. Of a NaN they are 0x7ff8_0000_0000_0000.
+// (This and `double_of` are the library's, said by IEEE 754's `to_bits` and `of_bits`.)
 pub fn bits_of(x: f64) -> u64
     ensures { result ≡ to_bits binary64 x }
 {

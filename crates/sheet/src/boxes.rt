@@ -51,6 +51,8 @@ impl Default for Boxes {
 
 impl Edges {
     // Puts the edges of box j.
+    // (A box is asked to be one of 64, as in the other two of this file: see `BoxIndex` for why no type holds
+    // it.)
     #[tactic(auto, unfolding(crate::specs::Boxes::edges_with))]
     fn put(&mut self, j: usize, low: i32, high: i32)
         requires { j < 64 }

@@ -40,6 +40,8 @@ pub(crate) fn one_in(ones: &[u64; 12], n: u8) -> Bins
 }
 
 // The bins with one point more.
+// (Here and in `with_point` numbers are asked to be small, and no type holds it: `tally_more` takes a tally of any
+// numbers, and is open to callers.)
 pub(crate) fn binned(b: Bins, one: Bins) -> Bins
     requires { BinsUpTo b (2 ^ 33) × BinsUpTo one 1 }
     ensures { result ≡ bins_with b one }
