@@ -55,6 +55,7 @@ pub struct las_mended {
 }
 
 // The number of a check.
+// (No `From`: neither type is of this crate.)
 #[tactic(auto, unfolding(fields::specs::Checks::number_of))]
 pub(crate) fn number_of(checked: Result<(), Refusal>) -> u64
     ensures { result ≡ number_of (verdict_of checked) }
@@ -150,6 +151,7 @@ impl From<Result<Searched, Refusal>> for las_class_line {
 }
 
 // A mark is 1 for yes.
+// (No `From`: neither type is of this crate.)
 fn mark_numbers(m: [bool; 12]) -> [u64; 12]
     ensures { result ≡ mark_numbers m }
 {

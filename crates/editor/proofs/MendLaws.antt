@@ -9,10 +9,10 @@ use borrow.Author.Tests.{eqb-true, eqb-false}
 use mathlib.Core.Bool.{Bool, true, false, not}
 use mathlib.Core.List.{List, [], ◌∷◌}
 use lib.Dec.{eqb, lit≤, lit<}
-use lib.ListN.{length, drop, get_or, replicate, length-drop}
+use lib.ListN.{length, drop, get_or, length-drop}
 use lib.Seq.{sets, length-sets}
 use Rattle.fields.specs.Bytes.{Bytes, AllBytes, part, num, same, bytes_of, pieces, numbers_bytes}
-use Rattle.fields.specs.Checks.{Verdict, Passes, Fails}
+use Rattle.fields.specs.Checks.{Passes}
 use Rattle.fields.proofs.ByteLaws.{same→eq, same_self, num-bytes_of, bytes_of-num, length_part, length-pieces, drop_bytes, take_bytes}
 use Rattle.fields.proofs.StoreLaws.{Apart, part_outside, part_stored, drop_behind}
 use Rattle.fields.proofs.arrays.NumberLaws.{length_numbers, numbers_part, stored_next}
@@ -228,10 +228,6 @@ module _ (s : Bytes) (t : Tally) (e : t ≡ tally_of (format s) (mended_points s
       )
 
 -- ---- the answer
-
-pub mend_refused : (s : Bytes) (v : Verdict) (n : ℕ) → v ≡ mend_verdict s → v ≡ Fails n → (record { verdict = v; marks = replicate 12 false }, s) ≡ mend s
-unfolding mend mend_by
-mend_refused s v n e f = rw (← e, f)
 
 pub mend_accepted : (s : Bytes) → mend_verdict s ≡ Passes → mend s ≡ (record { verdict = Passes; marks = marks s (mended s) }, mended s)
 unfolding mend mend_by

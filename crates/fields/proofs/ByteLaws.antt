@@ -9,7 +9,7 @@ use mathlib.Core.List.{List, [], ◌∷◌, ◌++◌, append_assoc}
 use lib.ListN.{length, take, drop, get_or, length-append, length-take, length-drop, drop_of_length-le}
 use lib.Seq.{take_all, take_at, drop_at, drop-append-add, get_or-drop, drop-drop, take-take, take-nil, take-add}
 use lib.Dec.{T, eqb, eqb→eq, eqb_refl, leb}
-use borrow.Author.Tests.{leb-true, leb-false}
+use borrow.Author.Tests.{leb-true}
 use Rattle.std.specs.Cmp.Lexicographic.{pointwise}
 use Rattle.fields.specs.Lists.{All, total}
 use Rattle.fields.specs.Bytes.{Bytes, AllBytes, part, num, bytes_of, same, join, pieces, start, Fit}
@@ -98,9 +98,6 @@ num_past at w s h = rw (drop_of_length-le s {i = at} h, take-nil w)
 pub fits_there : (r : Bool) (l at w : ℕ) → r ≡ leb (at + w) l → r ≡ true → at + w ≤ l
 fits_there r l at w e t = leb-true (at + w) l (sym e ∙ t)
 
-pub fits_short : (r : Bool) (l at w : ℕ) → r ≡ leb (at + w) l → r ≡ false → l < at + w
-fits_short r l at w e t = leb-false (at + w) l (sym e ∙ t)
-
 pub length_part : (at w : ℕ) (s : Bytes) → at + w ≤ length s → length (part at w s) ≡ w
 unfolding part
 length_part at w s h = simp (length-take, length-drop) (omega arith)
@@ -122,13 +119,6 @@ part_behind n at w x y h = rw (← h, drop-append-add)
 pub part_past : (at w : ℕ) (s : Bytes) → length s ≤ at → part at w s ≡ []
 unfolding part
 part_past at w s h = rw (drop_of_length-le s {i = at} h, take-nil w)
-
--- as many bytes as there are
-pub part_short : (at w : ℕ) (s : Bytes) → length s ≤ at + w → part at (length s - at) s ≡ part at w s
-unfolding part
-part_short at w s h =
-    let all : (n : ℕ) → length s ≤ at + n → take n (drop at s) ≡ drop at s = λ n k. take_all n (drop at s) (simp length-drop (omega arith)) in
-    all (length s - at) (omega arith) ∙ sym (all w h)
 
 -- the bytes from a place on
 pub from_place : (s : Bytes) (at : ℕ) → part at (length s) s ≡ drop at s

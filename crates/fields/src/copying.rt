@@ -27,8 +27,8 @@ fn copy_16(src: &[u8], from: usize, dst: &mut [u8], at: usize)
     dst[at..end].copy_from_slice(&block);
 }
 
-// Copies 16 bytes or more, 16 at a time. The last 16 may overlap those before them: so this counts places in both, where
-// pairs of chunks would leave the rest to a call of its own.
+// Copies 16 bytes or more, 16 at a time. The last 16 may overlap those before them: so this counts places in both,
+// where pairs of chunks would leave the rest to a call of its own.
 fn copy_blocks(src: &[u8], n: usize, dst: &mut [u8], at: usize)
     requires { (16 ≤ n) × (n ≤ length src.now) × (at + n ≤ length dst.old) }
     ensures { dst.new ≡ paste dst.old at src.now n }

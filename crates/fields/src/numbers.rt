@@ -26,6 +26,7 @@ pub fn least(a: usize, b: usize) -> usize
 }
 
 // The byte at a place.
+// (The library's `get`, with 0 past the end.)
 pub fn u8_at(s: &[u8], at: usize) -> u8
     ensures { result ≡ get_or s.now at 0 }
 {

@@ -26,6 +26,7 @@ pub fn same_bytes(a: &[u8], b: &[u8]) -> bool
 }
 
 // Zeroes n bytes from a place on.
+// (The library's `fill`, of the bytes that there are.)
 #[tactic(auto, using(crate::proofs::StoreLaws::zeroing))]
 pub fn zero(dst: &mut [u8], at: usize, n: usize)
     ensures { dst.new ≡ sets dst.old at (zeros n) }

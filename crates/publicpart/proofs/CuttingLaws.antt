@@ -102,10 +102,6 @@ module _ (sheet s : Bytes) where
 -- ---- answers of a cutting list
 
 module _ (sheet s : Bytes) (list : List Span) where
-  pub list_by_file : (n : ℕ) → file_verdict s ≡ Fails n → cutting_list sheet s list ≡ (Refused n, list)
-  unfolding cutting_list list_verdict list_under then
-  list_by_file n e = rw e
-
   module _ (file_good : file_verdict s ≡ Passes) where
     pub list_by_sheet : (n : ℕ) → sheet_verdict sheet ≡ Fails n → cutting_list sheet s list ≡ (Refused n, list)
     unfolding cutting_list list_verdict list_under then

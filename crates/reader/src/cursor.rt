@@ -10,7 +10,7 @@ use lasfile::vlr::{DESCRIPTION, FRONT, RECORD_ID, USER_ID};
 use lasfile::{header, vlr};
 
 // Where the parts of a record lie in the file. The texts' lengths are those of their cuts.
-#[derive(Clone, Copy)]
+#[derive(Clone, Copy, Debug, PartialEq, Eq)]
 pub struct RecordPlaces {
     pub user_place: usize,
     pub user_length: usize,
@@ -23,7 +23,7 @@ pub struct RecordPlaces {
 
 // An index among the records, and a position in the file: first 0 and the header size. The two need not belong
 // together.
-#[derive(Clone, Copy)]
+#[derive(Clone, Copy, Debug, PartialEq, Eq)]
 pub struct VlrCursor {
     pub index: usize,
     pub position: usize,

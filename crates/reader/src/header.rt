@@ -12,7 +12,7 @@ use lasfile::header;
 use scaling::{Bounds, Scaling};
 
 // Bytes 4 to 25. The GUID stands in four numbers, the last of 8 bytes.
-#[derive(Clone, Copy)]
+#[derive(Clone, Copy, Debug, PartialEq, Eq)]
 pub struct Identity {
     pub file_source_id: u64,
     pub global_encoding: u64,
@@ -25,7 +25,7 @@ pub struct Identity {
 }
 
 // What made the file and when. The texts stand at 26 and 58; these are the lengths of their cuts.
-#[derive(Clone, Copy)]
+#[derive(Clone, Copy, Debug, PartialEq, Eq)]
 pub struct Creation {
     pub system_length: u64,
     pub software_length: u64,
@@ -34,7 +34,7 @@ pub struct Creation {
 }
 
 // Where things are and how many there are.
-#[derive(Clone, Copy)]
+#[derive(Clone, Copy, Debug, PartialEq, Eq)]
 pub struct FileLayout {
     pub header_size: u64,
     pub point_offset: u64,
@@ -46,7 +46,7 @@ pub struct FileLayout {
 
 // The stated number of points of each return number. (Not the `Bins` of tally: those are counted, and this crate stands
 // below tally.)
-#[derive(Clone, Copy)]
+#[derive(Clone, Copy, Debug, PartialEq, Eq)]
 pub struct ByReturn {
     pub first: u64,
     pub second: u64,
@@ -56,7 +56,7 @@ pub struct ByReturn {
 }
 
 // The bounds are the stated ones, as their 64 bits: they may be NaNs.
-#[derive(Clone, Copy)]
+#[derive(Clone, Copy, Debug, PartialEq)]
 pub struct Header {
     pub identity: Identity,
     pub creation: Creation,

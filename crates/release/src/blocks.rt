@@ -9,6 +9,7 @@ use crate::run::Points;
 // How many records are looked at before the kept ones among them are copied.
 pub(crate) const BLOCK: usize = 64;
 
+// (Clone and Copy alone: nothing compares or prints it.)
 #[derive(Clone, Copy)]
 pub(crate) struct Blocks<'a> {
     pub(crate) rest: Points<'a>,

@@ -13,6 +13,7 @@ use lasfile::{header, vlr};
 // Still to look at are `records` records from `record_at` on, and then `points` points from `point_at` on. At hand is
 // the first of these, and `place` and `length` are its line. The last two are the file's, so that no turn reads them
 // again. (No Option in place of `more`: what is at hand is put before anything says whether it counts.)
+// (Clone and Copy alone: nothing compares or prints it.)
 #[derive(Clone, Copy)]
 pub struct Filling {
     pub more: bool,

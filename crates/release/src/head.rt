@@ -13,6 +13,7 @@ use scaling::Bounds;
 use tally::{Bins, in_header};
 
 // What a header says besides the carried fields.
+// (Clone and Copy alone: nothing compares or prints it.)
 #[derive(Clone, Copy)]
 pub struct HeadTotals {
     pub offset: u64,

@@ -16,6 +16,7 @@ use sheet::boxes::Boxes;
 use sheet::{boxes, class_table};
 
 // The places of chosen records of a block, in order, and how many they are.
+// (Clone and Copy alone: nothing compares or prints it.)
 #[derive(Clone, Copy)]
 pub(crate) struct Chosen {
     pub(crate) places: [usize; 64],
@@ -33,6 +34,7 @@ impl Default for Chosen {
 }
 
 // What a sheet keeps of the points of a file, made once for a release.
+// (Clone and Copy alone: nothing compares or prints it.)
 #[derive(Clone, Copy)]
 pub(crate) struct Keeper {
     pub(crate) table: [bool; 256],

@@ -9,6 +9,7 @@ use lasfile::header;
 use points::raw;
 
 // Records of a format, one behind the other, that all lie in the bytes.
+// (Clone and Copy alone: nothing compares or prints it.)
 #[derive(Clone, Copy)]
 pub(crate) struct Points<'a> {
     pub(crate) bytes: &'a [u8],

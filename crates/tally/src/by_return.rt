@@ -9,8 +9,8 @@ use crate::Bins;
 pub(crate) const LARGEST: u64 = 4294967295;
 
 // Twelve numbers, of which number 5 is 1 and the others are 0. They are made once for many points: a look-up in them
-// costs less than to compare a return number with a bin's. (Lent, and no constant in place: with that the point pass took
-// 1.25 times as long.)
+// costs less than to compare a return number with a bin's. (Lent, and no constant in place: with that the point pass
+// took 1.25 times as long.)
 pub(crate) fn one_among_zeros() -> [u64; 12]
     ensures { result ≡ one_among_zeros }
 {

@@ -1,6 +1,6 @@
 -- Where the loop of `fill_kept` stands, and what its proof asks of it: no line of this file is about code.
 -- Assumes nothing.
-use mathlib.Core.Path.{◌≡◌, refl, sym, ap, ◌∙◌}
+use mathlib.Core.Path.{◌≡◌, sym, ap, ◌∙◌}
 use Prim.Native.Nat.{ℕ, ◌+◌, ◌<◌, ◌≤◌}
 use native.Mathlib.Omega.{arith}
 use mathlib.Core.Bool.{true, false}
@@ -15,7 +15,7 @@ use Rattle.fields.proofs.ListLaws.{cons_if-append}
 use Rattle.publicpart.specs.declared.Span.{Span}
 use Rattle.publicpart.specs.Cutting.{span, fill}
 use Rattle.release.specs.declared.filling.Filling.{Filling}
-use Rattle.release.specs.Filling.{lines_from, kept_lines, Ready, HasLine, Begun, Looked}
+use Rattle.release.specs.Filling.{lines_from, kept_lines, Ready, HasLine, Looked}
 use Rattle.release.proofs.kept_points.LoopLaws.{step_le, take_put}
 use Rattle.release.proofs.filling.LineLaws.{some_left}
 
@@ -36,17 +36,6 @@ pub record Filled (sheet : Bytes) (keeper : Keeper) (s : Bytes) (n : ℕ) (ys : 
   pub long : length zs ≡ length ys
 
 module _ (sheet : Bytes) (keeper : Keeper) (s : Bytes) (n : ℕ) (ys : List Span) where
-  pub first_turn : (t : Filling) → Begun s n t → HasLine s t → Filled sheet keeper s n ys t ys
-  first_turn t b h = record {
-    ready = b.ready;
-    hand = h;
-    bound = b.bound;
-    all = ap (λ (k : ℕ). take k ys ++ lines_from sheet keeper s t) b.none ∙ b.lines sheet keeper;
-    few = omega (arith, b.none);
-    back = refl;
-    long = refl;
-  }
-
   module _ (small : n ≤ length (kept_lines sheet keeper s)) (fits : n ≤ length ys) (t : Filling) (zs : List Span) (a : Filled sheet keeper s n ys t zs) where
     -- the lines before line k are k lines
     front : length (take t.k zs) ≡ t.k
