@@ -38,7 +38,7 @@ pub struct las_header {
     pub bounds: [u64; 6],
 }
 
-// (These arrays are the layout that C reads.)
+// (No `From` here and in the next three: neither type is of this crate. The arrays are the layout that C reads.)
 fn by_return_numbers(b: header::ByReturn) -> [u64; 5]
     ensures { result ≡ by_return_numbers b }
 {

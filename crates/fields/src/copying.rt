@@ -4,9 +4,10 @@ ghost use Rattle.std.specs.Prelude.{◌≡◌, cond, ◌+◌, ◌≤◌, leb, le
 ghost use Rattle.std.proofs.Math.Seq.{paste};
 ghost use Rattle.std.proofs.lemmas.List.Edits.{sets};
 
-// Copies byte by byte.
-// (The functions of this file are no twins: each moves blocks of its own size, and calls the next. Bytes and places
-// stay parameters of their own, and what must be there is asked: it is of two slices, and `copy` makes sure of it.)
+// Copies n bytes, by the library's copy.
+// (The functions of this file are no twins: three copy fewer than 16 bytes, 16 to 32 and more, by `copy_16`;
+// `copy_all` picks one; `copy_whole` and `copy` differ in what they do without room. Bytes and places stay
+// parameters of their own, and what must be there is asked: it is of two slices, and these two make sure of it.)
 fn copy_bytes(src: &[u8], n: usize, dst: &mut [u8], at: usize)
     requires { (n ≤ length src.now) × (at + n ≤ length dst.old) }
     ensures { dst.new ≡ paste dst.old at src.now n }
@@ -27,8 +28,8 @@ fn copy_16(src: &[u8], from: usize, dst: &mut [u8], at: usize)
     dst[at..end].copy_from_slice(&block);
 }
 
-// Copies 16 bytes or more, 16 at a time. The last 16 may overlap those before them: so this counts places in both,
-// where pairs of chunks would leave the rest to a call of its own.
+// Copies 16 bytes or more, 16 at a time. The last 16 may overlap those before them, so that chunks
+// do not fit. (A `for` over `(0..last).step_by(16)` has two ways out, which the proof does not have yet.)
 fn copy_blocks(src: &[u8], n: usize, dst: &mut [u8], at: usize)
     requires { (16 ≤ n) × (n ≤ length src.now) × (at + n ≤ length dst.old) }
     ensures { dst.new ≡ paste dst.old at src.now n }

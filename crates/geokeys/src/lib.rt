@@ -103,7 +103,7 @@ fn checked_at(file: &[u8], at: usize) -> Result<usize, Refusal>
 }
 
 // The entries of a directory that has room for as many as it states.
-// (The room is asked, and no type of directories holds it: `directory_at` makes sure of it for both lookups.)
+// (The room is asked, and no type of directories holds it: `find_directory` makes sure of it for both lookups.)
 pub(crate) fn entries(directory: &[u8]) -> &[[u8; ENTRY]]
     requires { 8 + 8 * key_count directory.now ≤ length directory.now }
     ensures { (result.now ≡ entries directory.now) × (length result.now < 2 ^ 16) }

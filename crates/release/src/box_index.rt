@@ -38,8 +38,8 @@ fn key(z: i32) -> u64
 impl Axis {
     // The cells from the lowest low of the first n boxes to their highest high, with no box in them. A range with z
     // leading zeros has at most 64 cells of 58 - z bits; a range below 64 has 58 zeros or more, and cells one wide.
-    // (Here and in `mark_cells` a number of boxes, or of one box, is asked to be at most 64: a type of such
-    // numbers would be made of a `usize` and turned into one again at each use.)
+    // (Here and in `of` a number of boxes is asked to be at most 64, and in `mark_cells` and `mark` that of one box to
+    // be below 64: a type of such numbers would be made of a `usize` and turned into one again at each use.)
     fn laid(edges: &Edges, n: usize) -> Axis
         requires { n ≤ 64 }
     {

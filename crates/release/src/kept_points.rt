@@ -87,8 +87,8 @@ impl Keeper {
     // Leaves of the chosen records those that lie in a box. Each place is put behind those that stay, and stays there
     // only where its record lies in one. No record is shorter than 20 bytes; that is asked so that the compiler knows
     // it, and makes no code for stored values cut short.
-    // (That there is a box is asked, and no type of keepers with boxes holds it: `no_box` decides it once for all
-    // three.)
+    // (That there is a box is asked, and no type of keepers with boxes holds it: `choose` and `count` ask `no_box`
+    // before they call one of the three.)
     fn leave_in_boxes(&self, block: Points<'_>, chosen: &mut Chosen)
         requires { (chosen.old.count ≤ 64)
             × Places block.record_length block.bytes.now (take chosen.old.count chosen.old.places)

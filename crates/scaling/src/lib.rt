@@ -23,7 +23,7 @@ const LOWEST_OFFSET: f64 = -1099511627776.0;
 // 2^40
 const HIGHEST_OFFSET: f64 = 1099511627776.0;
 
-// (Not one function of the two ends with `good_offset`: each is named as its definition is, and has one use.)
+// (No one function of two ends for this and `good_offset`: each is named as its definition, and is one line.)
 fn good_scale(x: f64) -> bool
     ensures { result ≡ good_scale x }
 {

@@ -51,8 +51,8 @@ impl Default for Boxes {
 
 impl Edges {
     // Puts the edges of box j.
-    // (A box is asked to be one of 64, as in the other two of this file: see `BoxIndex` for why no type holds
-    // it.)
+    // (That j is one of 64 is asked, here, in `holds` and in `in_box_at`, as n is at most 64 in `in_first`: a type of
+    // such numbers would be made of a `usize` and turned into one again at each use.)
     #[tactic(auto, unfolding(crate::specs::Boxes::edges_with))]
     fn put(&mut self, j: usize, low: i32, high: i32)
         requires { j < 64 }

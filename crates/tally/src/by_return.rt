@@ -10,7 +10,7 @@ pub(crate) const LARGEST: u64 = 4294967295;
 
 // Twelve numbers, of which number 5 is 1 and the others are 0. They are made once for many points: a look-up in them
 // costs less than to compare a return number with a bin's. (Lent, and no constant in place: with that the point pass
-// took 1.25 times as long.)
+// took 1.25 times as long. That they are these is asked: a type that holds it would have one value.)
 pub(crate) fn one_among_zeros() -> [u64; 12]
     ensures { result ≡ one_among_zeros }
 {
@@ -40,8 +40,8 @@ pub(crate) fn one_in(ones: &[u64; 12], n: u8) -> Bins
 }
 
 // The bins with one point more.
-// (Here and in `with_point` numbers are asked to be small, and no type holds it: `tally_more` takes a tally of any
-// numbers, and is open to callers.)
+// (Here and in the steps of a tally numbers are asked to be small, and no type holds it: `tally_more` takes a tally of
+// any numbers, and is open to callers; and `one` is a `Bins` like any other, made by `one_in`.)
 pub(crate) fn binned(b: Bins, one: Bins) -> Bins
     requires { BinsUpTo b (2 ^ 33) × BinsUpTo one 1 }
     ensures { result ≡ bins_with b one }
