@@ -129,7 +129,6 @@ pub fn tally_more(t: Tally, run: &[u8], format: u8, record_length: usize, count:
 }
 
 // The bits of the bounds: of the coordinates of the extremes, or of +0.0 where there is no point.
-#[tactic(auto, unfolding(crate::specs::Tally::tally_bounds, crate::specs::Tally::bounds_unless, crate::specs::Tally::zero_bounds))]
 pub fn tally_bounds(t: Tally, s: Scaling) -> Bounds
     ensures { result ≡ tally_bounds t s }
 {
