@@ -1,6 +1,8 @@
 -- `tally_run` meets its contract. Assumes nothing.
-use Rattle.std.proofs.Common.{◌≡◌, ◌∙◌, ◌+◌, ◌^◌, length, take, ap, arith}
+use Rattle.std.proofs.Common.{◌≡◌, ◌∙◌, ◌+◌, ◌-◌, ◌^◌, ℕ, length, take, ap, arith}
 use Rattle.std.proofs.lemmas.Grind.{common_steps}
+use mathlib.Core.List.{foldl}
+use Rattle.fields.specs.Bytes.{pieces}
 use Rattle.tally.specs.Tally.{tallied}
 use Rattle.tally.proofs.CountLaws.{counts_up}
 use Rattle.tally.proofs.RunLaws.{turned, counts_turned, rest_within}
@@ -21,4 +23,14 @@ loop-i-preserved c =
       same = turned a.format a.count l._i a.record_length _ _ _ _ _ (omega arith) one c.split_at.ensures.back l.invariant.same;
       counts = counts_turned a.format l._i _ _ _ one l.invariant.counts;
       held = grind (arith, common_steps, rest_within a.count l._i a.record_length (length l.rest.now) (omega arith) l.invariant.held);
+    }
+
+pub loop-i-init : goal.loop-i-init
+loop-i-init c =
+    let a = c.args in
+    let all : a.count - 0 ≡ a.count = omega arith in
+    record {
+      same = ap (λ (n : ℕ). foldl (tallied a.format) a.t (pieces n a.record_length a.run.now)) all;
+      counts = c.requires.2;
+      held = rw all c.requires.1;
     }
