@@ -1,6 +1,6 @@
 -- The boxes of a keep sheet, which a release reads once, and whether a point lies in one of them.
 -- Assumes nothing.
-use Rattle.std.specs.Prelude.{◌≡◌, ℕ, zero, suc, ◌+◌, ◌<◌, Bool, false, cond, ◌&&◌, ◌||◌, List, map, length, get_or, set, replicate, min, eqb, ℤ, pos}
+use Rattle.std.specs.Prelude.{◌≡◌, ℕ, zero, suc, ◌+◌, ◌<◌, Bool, false, cond, ◌&&◌, ◌||◌, List, map, length, get_or, set, replicate, ltb, eqb, ℤ, pos, negsuc}
 use Rattle.fields.specs.Lists.{kept}
 use Rattle.fields.specs.Bytes.{Bytes}
 use Rattle.points.specs.Raw.{stored}
@@ -36,13 +36,18 @@ Numbered bs b =
 
 -- the boxes of a sheet
 abbrev pub BoxesOf : Bytes → Boxes → Type 0
-BoxesOf sheet b = Numbered (box_lines sheet) b × (b.count ≡ length (box_lines sheet))
+BoxesOf sheet b = Numbered (box_lines sheet) b × (b.count ≡ pos (length (box_lines sheet)))
 
 -- ---- of any boxes
 
+-- a number as one from 0 to 64
+unfoldable pub up_to64 : ℤ → ℕ
+up_to64 (pos n) = cond (ltb n 64) n 64
+up_to64 (negsuc n) = 0
+
 -- how many they are: there is room for 64
 unfoldable pub box_count : Boxes → ℕ
-box_count b = min b.count 64
+box_count b = up_to64 b.count
 
 -- whether a stored value lies in box j on an axis
 unfoldable pub in_axis : Edges → ℕ → ℤ → Bool
@@ -82,7 +87,7 @@ abbrev pub no_edges : Edges
 no_edges = record { low = replicate 64 (pos 0); high = replicate 64 (pos 0) }
 
 abbrev pub no_boxes : Boxes
-no_boxes = record { x = no_edges; y = no_edges; z = no_edges; count = 0 }
+no_boxes = record { x = no_edges; y = no_edges; z = no_edges; count = pos 0 }
 
 -- with these edges of box j
 unfoldable pub edges_with : ℕ → ℤ → ℤ → Edges → Edges
@@ -92,15 +97,15 @@ edges_with j low high e = record { low = set e.low j low; high = set e.high j hi
 unfoldable pub with_box : Bytes → Boxes → Boxes
 with_box l b =
     record {
-      x = edges_with b.count (edge 0 l) (edge 1 l) b.x;
-      y = edges_with b.count (edge 2 l) (edge 3 l) b.y;
-      z = edges_with b.count (edge 4 l) (edge 5 l) b.z;
+      x = edges_with (box_count b) (edge 0 l) (edge 1 l) b.x;
+      y = edges_with (box_count b) (edge 2 l) (edge 3 l) b.y;
+      z = edges_with (box_count b) (edge 4 l) (edge 5 l) b.z;
       count = b.count;
     }
 
 -- and counted, where the line is a box
 abbrev pub counted : Boxes → Boxes
-counted b = record { x = b.x; y = b.y; z = b.z; count = b.count + 1 }
+counted b = record { x = b.x; y = b.y; z = b.z; count = pos (box_count b + 1) }
 
 unfoldable pub with_line : Boxes → Bytes → Boxes
 with_line b l = cond (is_box l) (counted (with_box l b)) b

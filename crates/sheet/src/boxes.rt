@@ -14,13 +14,13 @@ pub struct Edges {
     pub high: [i32; 64],
 }
 
-// The edges of up to 64 boxes on each axis, and how many boxes there are.
+// The edges of up to 64 boxes on each axis, and how many boxes there are: below 0 stands for none, and above 64 for 64.
 #[derive(Clone, Copy, Debug, PartialEq, Eq)]
 pub struct Boxes {
     pub x: Edges,
     pub y: Edges,
     pub z: Edges,
-    pub count: usize,
+    pub count: i32,
 }
 
 // No edges yet.
@@ -80,10 +80,10 @@ fn is_box(line: &[u8]) -> bool
 
 // Puts the edges of a line's box behind those of the others.
 fn put_box(line: &[u8], boxes: &mut Boxes)
-    requires { boxes.old.count < 64 }
+    requires { box_count boxes.old < 64 }
     ensures { boxes.new ≡ with_box line.now boxes.old }
 {
-    let j = boxes.count;
+    let j = count(boxes);
     boxes.x.put(j, crate::edge(line, 0), crate::edge(line, 1));
     boxes.y.put(j, crate::edge(line, 2), crate::edge(line, 3));
     boxes.z.put(j, crate::edge(line, 4), crate::edge(line, 5));
@@ -92,12 +92,12 @@ fn put_box(line: &[u8], boxes: &mut Boxes)
 // The same for a line that is a box, and counts it; one that is none changes nothing.
 #[tactic(auto, unfolding(crate::specs::Boxes::with_line, crate::specs::Boxes::with_box))]
 fn take_line(line: &[u8], boxes: &mut Boxes)
-    requires { boxes.old.count < 64 }
+    requires { box_count boxes.old < 64 }
     ensures { boxes.new ≡ with_line boxes.old line.now }
 {
     if is_box(line) {
         put_box(line, boxes);
-        boxes.count += 1;
+        boxes.count = (count(boxes) + 1) as i32;
     }
 }
 
@@ -113,11 +113,14 @@ pub fn boxes_of(sheet: &[u8]) -> Boxes
 }
 
 // How many boxes there are, from 0 to 64.
-#[tactic(auto, unfolding(crate::specs::Boxes::box_count))]
 pub fn count(boxes: &Boxes) -> usize
     ensures { (result ≡ box_count boxes.now) × (result ≤ 64) }
 {
-    boxes.count.min(64)
+    let n = boxes.count;
+    if n < 0 {
+        return 0;
+    }
+    if n < 64 { n as usize } else { 64 }
 }
 
 // Whether there is no box at all.

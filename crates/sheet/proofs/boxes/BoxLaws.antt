@@ -19,6 +19,7 @@ use Rattle.sheet.specs.Keeping.{is_box, in_box, contains_point, has_box, keeps_p
 use Rattle.sheet.specs.declared.boxes.Boxes.{Boxes}
 use Rattle.sheet.specs.Boxes.{box_lines, low_at, high_at, Numbered, BoxesOf, box_count, in_axis, in_box_at, in_first, in_any, along, in_boxes, keeps_by}
 use Rattle.sheet.proofs.LineLaws.{at_most_64}
+use Rattle.sheet.proofs.boxes.NumberLaws.{count_as}
 use Rattle.sheet.proofs.class_table.ClassLaws.{table_keeps}
 
 -- ---- how many there are
@@ -28,8 +29,7 @@ unfolding box_lines
 few_boxes sheet = omega (arith, length-kept is_box (lines sheet), at_most_64 sheet)
 
 pub count_is : (sheet : Bytes) (b : Boxes) → BoxesOf sheet b → box_count b ≡ length (box_lines sheet)
-unfolding box_count
-count_is sheet b h = omega (arith, h.1, few_boxes sheet)
+count_is sheet b h = count_as b (length (box_lines sheet)) h.1 (few_boxes sheet)
 
 -- ---- a point in them
 

@@ -16,7 +16,8 @@ use Rattle.fields.proofs.ListLaws.{cons_if-append}
 use Rattle.sheet.specs.Sheet.{edge, low, high, lines}
 use Rattle.sheet.specs.Keeping.{is_box}
 use Rattle.sheet.specs.declared.boxes.Boxes.{Boxes}
-use Rattle.sheet.specs.Boxes.{box_lines, edges_on, Numbered, BoxesOf, no_boxes, edges_with, with_box, counted, with_line}
+use Rattle.sheet.specs.Boxes.{box_lines, edges_on, Numbered, BoxesOf, box_count, no_boxes, edges_with, with_box, counted, with_line}
+use Rattle.sheet.proofs.boxes.NumberLaws.{count_as, at_most}
 use Rattle.sheet.proofs.LineLaws.{at_most_64}
 
 -- ---- one number more behind those of other lines
@@ -64,7 +65,7 @@ one_more f l bs ns n number small h = record { each = λ j less. by_place j less
 
 -- the boxes are those of these lines
 record Held (bs : List Bytes) (b : Boxes) : Type 0 where
-  pub number : b.count ≡ length bs
+  pub number : b.count ≡ pos (length bs)
   pub low_x : Stand (edge 0) bs b.x.low
   pub high_x : Stand (edge 1) bs b.x.high
   pub low_y : Stand (edge 2) bs b.y.low
@@ -88,15 +89,16 @@ module _ (l : Bytes) (bs : List Bytes) (b : Boxes) (small : length bs < 64) (h :
   box_held : Held (bs ++ l ∷ []) (counted (with_box l b))
   unfolding with_box edges_with
   box_held =
-      let less : b.count < 64 = omega (arith, h.number) in
+      let n : box_count b ≡ length bs = count_as b (length bs) h.number (omega arith) in
+      let less : box_count b < 64 = omega (arith, n) in
       record {
-        number = omega (arith, h.number, length-append bs (l ∷ []));
-        low_x = one_more (edge 0) l bs b.x.low b.count h.number less h.low_x;
-        high_x = one_more (edge 1) l bs b.x.high b.count h.number less h.high_x;
-        low_y = one_more (edge 2) l bs b.y.low b.count h.number less h.low_y;
-        high_y = one_more (edge 3) l bs b.y.high b.count h.number less h.high_y;
-        low_z = one_more (edge 4) l bs b.z.low b.count h.number less h.low_z;
-        high_z = one_more (edge 5) l bs b.z.high b.count h.number less h.high_z;
+        number = ap pos (omega (arith, count_as (with_box l b) (length bs) h.number (omega arith), length-append bs (l ∷ [])));
+        low_x = one_more (edge 0) l bs b.x.low (box_count b) n less h.low_x;
+        high_x = one_more (edge 1) l bs b.x.high (box_count b) n less h.high_x;
+        low_y = one_more (edge 2) l bs b.y.low (box_count b) n less h.low_y;
+        high_y = one_more (edge 3) l bs b.y.high (box_count b) n less h.high_y;
+        low_z = one_more (edge 4) l bs b.z.low (box_count b) n less h.low_z;
+        high_z = one_more (edge 5) l bs b.z.high (box_count b) n less h.high_z;
       }
 
   by_kind : (k : Bool) → Held (bs ++ cons_if k l []) (cond k (counted (with_box l b)) b)
@@ -142,25 +144,25 @@ read_all sheet =
 
 -- ---- the loop over the lines
 
-by_kind_few : (k : Bool) (l : Bytes) (b : Boxes) → (cond k (counted (with_box l b)) b).count ≤ b.count + 1
-unfolding with_box
-by_kind_few true l b = omega arith
+by_kind_few : (k : Bool) (l : Bytes) (b : Boxes) → box_count (cond k (counted (with_box l b)) b) ≤ box_count b + 1
+unfolding box_count with_box
+by_kind_few true l b = at_most (box_count b + 1)
 by_kind_few false l b = omega arith
 
 -- these lines are still to look at
 pub record Reading (sheet : Bytes) (left : List Bytes) (b : Boxes) : Type 0 where
   pub all : foldl with_line b left ≡ foldl with_line no_boxes (lines sheet)
-  pub few : b.count + length left ≤ 64
+  pub few : box_count b + length left ≤ 64
 
 pub read_begun : (sheet : Bytes) (left : List Bytes) → left ≡ lines sheet → Reading sheet left no_boxes
-read_begun sheet left e = rw e record { all = refl; few = omega (arith, at_most_64 sheet) }
+read_begun sheet left e = rw e record { all = refl; few = omega (arith, count_as no_boxes 0 refl (omega arith), at_most_64 sheet) }
 
 module _ (sheet : Bytes) (left : List Bytes) (b : Boxes) (c : Reading sheet left b) where
   module _ (l : Bytes) (behind : List Bytes) (split : left ≡ l ∷ behind) where
     one_less : length left ≡ length behind + 1
     one_less = rw split (omega arith)
 
-    pub room : b.count < 64
+    pub room : box_count b < 64
     room = omega (arith, c.few, one_less)
 
     pub read_next : Reading sheet behind (with_line b l)

@@ -16,4 +16,4 @@ returns c =
       to_z-of_z w32 c.edge-5.result (record { sfits = c.edge-5.type_inv }),
       to_z-of_z w32 c.edge-6.result (record { sfits = c.edge-6.type_inv }),
     )
-    (rw (c.edge.ensures, c.edge-2.ensures, c.edge-3.ensures, c.edge-4.ensures, c.edge-5.ensures, c.edge-6.ensures)))
+    (rw (c.edge.ensures, c.edge-2.ensures, c.edge-3.ensures, c.edge-4.ensures, c.edge-5.ensures, c.edge-6.ensures, c.count-j.ensures.0)))
