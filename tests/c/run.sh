@@ -56,6 +56,12 @@ add() {
     fi
 }
 
+# needed: the names that the library needs from outside, a line each, in order.
+needed() {
+    nm -u "$library" | awk 'NF == 2 { print $2 }' | LC_ALL=C sort -u
+}
+
+holds "nothing but C's memcpy and memset is needed from outside" [ "$(needed)" = $'memcpy\nmemset' ]
 holds "the header by itself as C" cc -std=c99 "${strict[@]}" -x c -fsyntax-only "$include/korbishaf.h"
 holds "release.c" cc -std=c99 "${strict[@]}" -I"$include" "$here/release.c" "$library" -o "$scratch/release"
 holds "interface.c" cc -std=c99 "${strict[@]}" -I"$include" "$here/interface.c" "$library" -o "$scratch/interface"

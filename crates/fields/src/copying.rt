@@ -4,7 +4,8 @@ ghost use Rattle.std.specs.Prelude.{◌≡◌, cond, ◌+◌, ◌≤◌, leb, le
 ghost use Rattle.std.proofs.Math.Seq.{paste};
 ghost use Rattle.std.proofs.lemmas.List.Edits.{sets};
 
-// Copies n bytes, by the library's copy.
+// Copies n bytes, one by one: the library's copy of a length that is not known is a call of C's memmove, which a
+// static library would need from outside.
 // (The functions of this file are no twins: three copy fewer than 16 bytes, 16 to 32 and more, by `copy_16`;
 // `copy_all` picks one; `copy_whole` and `copy` differ in what they do without room. Bytes and places stay
 // parameters of their own, and what must be there is asked: it is of two slices, and these two make sure of it.)
@@ -12,8 +13,9 @@ fn copy_bytes(src: &[u8], n: usize, dst: &mut [u8], at: usize)
     requires { (n ≤ length src.now) × (at + n ≤ length dst.old) }
     ensures { dst.new ≡ paste dst.old at src.now n }
 {
-    let end = at + n;
-    dst[at..end].copy_from_slice(&src[..n]);
+    for i in 0..n {
+        dst[at + i] = src[i];
+    }
 }
 
 // Copies 16 bytes. All are read before the first is written, so that the compiler moves them at once.

@@ -1,11 +1,17 @@
 -- Laws of copies, byte by byte and by blocks. Assumes nothing.
 use mathlib.Core.Path.{◌≡◌, sym, ap, ◌∙◌}
 use mathlib.Core.List.{List, ◌++◌, append_assoc}
-use Prim.Native.Nat.{ℕ, ◌+◌, ◌-◌, ◌≤◌}
+use Prim.Native.Nat.{ℕ, ◌+◌, ◌-◌, ◌≤◌, ◌<◌}
+use native.Mathlib.Numerals.{add-one}
 use native.Mathlib.Omega.{arith}
-use lib.ListN.{length, take, drop}
+use lib.ListN.{length, take, drop, get_or, set}
 use native.Mathlib.Nat.{add_assoc}
-use lib.Seq.{paste, length_paste_head, drop-paste, length-take-le, take-append-le, take-append-add, take-take, take-add, drop-drop}
+use lib.Seq.{paste, paste-suc, length_paste_head, drop-paste, length-take-le, take-append-le, take-append-add, take-take, take-add, drop-drop}
+
+-- a turn of a loop that copies from the front on
+pub paste_next : (d : List ℕ) (at : ℕ) (s : List ℕ) (i : ℕ) → at + i < length d → i < length s
+    → set (paste d at s i) (at + i) (get_or s i 0) ≡ paste d at s (i + 1)
+paste_next d at s i hd hs = rw add-one (paste-suc d at s i 0 hd hs)
 
 -- a second copy, from within the first on or from its end, and at least to its end
 pub paste_over : (d : List ℕ) (at : ℕ) (s : List ℕ) (i j m : ℕ) → at + (j + m) ≤ length d → j + m ≤ length s → j ≤ i → i ≤ j + m
