@@ -6,18 +6,22 @@ ghost use Rattle.fields.specs.Text.{cut, padded};
 
 use crate::{copying, numbers, slices};
 
-// The length of a text's cut: `end` is behind the last byte that is no space.
-#[tactic(auto, using(crate::proofs::text::EndLaws::ends))]
+// The length of a text's cut: `end` is behind the last byte that is no space, and `spaces` follow it. (Both texts of a
+// record are cut at each step over it: counting so takes less time than the places of `enumerate`.)
 pub fn cut_length(text: &[u8]) -> usize
     ensures { result ≡ length (cut text.now) }
 {
     let mut end = 0;
-    for (i, byte) in text.iter().enumerate() {
+    let mut spaces = 0;
+    for byte in text {
         if *byte == 0 {
             return end;
         }
-        if *byte != 0x20 {
-            end = i + 1;
+        if *byte == 0x20 {
+            spaces += 1;
+        } else {
+            end += spaces + 1;
+            spaces = 0;
         }
     }
     end

@@ -35,11 +35,14 @@ pub fn size_at(file: &[u8], at: usize) -> usize
     FRONT + payload_length_at(file, at)
 }
 
-// A record: its place in the file, and the bytes from there on, of which a damaged file may have few or none.
+// A record: its place in the file, the bytes from there on, of which a damaged file may have few or none, and where it
+// ends, so that its length is read once.
 #[derive(Clone, Copy, Debug, PartialEq, Eq)]
 pub struct Vlr<'a> {
     pub place: usize,
     pub bytes: &'a [u8],
+    pub end: usize,
+    ghost ends: { end ≡ place + size_of 2 bytes.now },
 }
 
 // The counted records of a file that are left to walk, the first of them at a place and with the bytes from there on. A
@@ -80,12 +83,17 @@ impl<'a> Iterator for Records<'a> {
             return None;
         }
         let size = size_at(rest, 0);
+        let end = place + size;
         *self = Records {
-            place: place + size,
+            place: end,
             rest: slices::part_at(rest, size, rest.len()),
             left: left - 1,
         };
-        Some(Vlr { place, bytes: rest })
+        Some(Vlr {
+            place,
+            bytes: rest,
+            end,
+        })
     }
 }
 
@@ -99,7 +107,7 @@ pub(crate) fn records_fit(file: &[u8], end: usize) -> bool
         return false;
     }
     for vlr in Records::new(file) {
-        if !fields::numbers::fits_in(end, vlr.place, size_at(vlr.bytes, 0)) {
+        if end < vlr.end {
             return false;
         }
     }

@@ -4,7 +4,7 @@ use mathlib.Core.Path.{◌≡◌, refl}
 use Prim.Native.Nat.{ℕ, zero, suc, ◌+◌}
 use native.Mathlib.Omega.{arith}
 use mathlib.Core.List.{[], ◌∷◌}
-use lib.ListN.{length, drop, get_or, get_or-eq_default}
+use lib.ListN.{length, drop, get_or}
 use Rattle.fields.specs.Bytes.{Bytes}
 use Rattle.fields.specs.Text.{cons_trimmed, cut}
 use Rattle.fields.proofs.TextLaws.{space_goes, other_stays, cut_stops, cut_goes}
@@ -43,5 +43,3 @@ past_other e i b (c ∷ cs) n = omega arith
 pub end_moves : (e i : ℕ) (t : Bytes) → (get_or t i 0 ≡ 0 → ⊥) → (get_or t i 0 ≡ 32 → ⊥)
     → cut_end e i (length (cut (drop i t))) ≡ cut_end (i + 1) (i + 1) (length (cut (drop (i + 1) t)))
 end_moves e i t z n = rw (cut_goes i t z) (past_other e i (get_or t i 0) (cut (drop (i + 1) t)) n)
-
-pub ruleset ends = (end_begins, end_stops, end_waits, end_moves, get_or-eq_default)

@@ -1,18 +1,26 @@
 -- `vlr::records_fit` meets its contract. Assumes nothing.
-use Rattle.std.proofs.Common.{sym, ◌∙◌, arith}
+use mathlib.Core.Path.{refl}
+use Prim.Native.Nat.{◌+◌}
+use Rattle.std.proofs.Common.{arith}
+use borrow.Author.Tests.{le-leb, lt-leb}
+use Rattle.lasfile.specs.Records.{size_of}
 use Rattle.lasfile.proofs.vlr.PlacedLaws.{header_past, one_past, one_fits}
 use Rattle.lasfile.proofs.vlr.records_fit.Goals as goal
 
 pub returns-then-end-header_size : goal.returns-then-end-header_size
 returns-then-end-header_size c = header_past _ _ (omega arith)
 
-pub returns-then-not-fits_in : goal.returns-then-not-fits_in
-returns-then-not-fits_in c =
-    one_past _ _ _ _ _ _ _ c.in-Some.ensures.steps c.loop-vlr.invariant.same c.size_at.ensures.0 (sym c.fits_in.ensures ∙ c.if-not-fits_in.true)
+pub returns-then-end-vlr : goal.returns-then-end-vlr
+returns-then-end-vlr c =
+    let v = c.in-Some.vlr in
+    one_past _ _ _ _ _ _ _ c.in-Some.ensures.steps c.loop-vlr.invariant.same refl
+    (lt-leb (v.place + size_of 2 v.bytes.now) c.args.end (omega (arith, v.ends, c.if-end-vlr.true)))
 
 pub loop-vlr-preserved : goal.loop-vlr-preserved
 loop-vlr-preserved c =
+    let v = c.in-Some.vlr in
     record {
       same =
-          one_fits _ _ _ _ _ _ _ c.in-Some.ensures.steps c.loop-vlr.invariant.same c.size_at.ensures.0 (sym c.fits_in.ensures ∙ c.if-not-fits_in.false);
+          one_fits _ _ _ _ _ _ _ c.in-Some.ensures.steps c.loop-vlr.invariant.same refl
+          (le-leb (v.place + size_of 2 v.bytes.now) c.args.end (omega (arith, v.ends, c.if-end-vlr.false)));
     }
