@@ -63,6 +63,25 @@ points_none s = refl
 
 pub ruleset writing = (common_steps, records_next, points_next, records_none, points_none, sets-append, length-sets, length-append)
 
+-- a turn of the loop that writes records
+module _ (s : Bytes) (ls : List Span) (i : ℕ) (less : i < length ls) (begun out after : Bytes) (from to n : ℕ)
+    (size : n ≡ length (record_from s (get_or ls i (span 0 0)))) where
+  pub record_out : after ≡ sets out to (record_from s (get_or ls i (span 0 0)))
+      → sets out to (records_named s (drop i ls)) ≡ sets begun from (records_named s ls)
+      → sets after (to + n) (records_named s (drop (i + 1) ls)) ≡ sets begun from (records_named s ls)
+  record_out wrote same =
+      rw (wrote, size)
+      (sym (sets-append out to (record_from s (get_or ls i (span 0 0))) (records_named s (drop (i + 1) ls)))
+      ∙ ap (sets out to) (sym (records_next s ls i less)) ∙ same)
+
+  pub record_long : after ≡ sets out to (record_from s (get_or ls i (span 0 0))) → length out ≡ length begun → length after ≡ length begun
+  record_long wrote long = ap length wrote ∙ length-sets out to (record_from s (get_or ls i (span 0 0))) ∙ long
+
+  pub record_left : to + length (records_named s (drop i ls)) ≡ from + length (records_named s ls)
+      → to + n + length (records_named s (drop (i + 1) ls)) ≡ from + length (records_named s ls)
+  record_left left =
+      omega (arith, size, left, ap length (records_next s ls i less), length-append (record_from s (get_or ls i (span 0 0))) (records_named s (drop (i + 1) ls)))
+
 -- the records of the first lines, and the points of those behind them
 module _ (s : Bytes) (list : List Span) (r : Released) where
   pub length-items : length (items s list r) ≡ length (records_named s (take r.records list)) + length (points_named s (take r.points (drop r.records list)))
