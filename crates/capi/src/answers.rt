@@ -182,8 +182,8 @@ impl From<Result<[bool; 12], Refusal>> for las_mended {
                 number: 0,
                 marks: mark_numbers(marks),
             },
-            Err(refusal) => las_mended {
-                number: refusal.number(),
+            Err(why) => las_mended {
+                number: why.number(),
                 ..las_mended::default()
             },
         }

@@ -42,8 +42,8 @@ impl ReleaseError {
 impl From<Refusal> for ReleaseError {
     ghost from_gives = { λ refusal error. error ≡ Refused refusal };
 
-    fn from(refusal: Refusal) -> ReleaseError {
-        ReleaseError::Refused(refusal)
+    fn from(why: Refusal) -> ReleaseError {
+        ReleaseError::Refused(why)
     }
 }
 

@@ -33,6 +33,7 @@ pub fn class_kept(sheet: &[u8], class: u8) -> Result<bool, Refusal>
 pub fn record_kept(sheet: &[u8], user: &[u8], id: u16) -> Result<bool, Refusal>
     ensures { by_number kept_by Refused result ≡ record_kept sheet.now user.now id }
 {
+    let kept = lookup::holds_record(sheet, user, id);
     crate::check_sheet(sheet)?;
-    Ok(lookup::holds_record(sheet, user, id))
+    Ok(kept)
 }
