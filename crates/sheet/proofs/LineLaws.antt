@@ -1,11 +1,12 @@
 -- Laws of a sheet's lines, and of their checks, by one turn: a line, and what follows it.
 -- Assumes nothing.
-use mathlib.Core.Path.{◌≡◌, refl, ◌∙◌}
+use mathlib.Core.Path.{◌≡◌, refl, sym, ap, ◌∙◌}
 use Prim.Native.Nat.{ℕ, zero, suc, ◌-◌, ◌≤◌, ◌<◌}
 use native.Mathlib.Nat.{not-suc-le-zero}
 use native.Mathlib.Omega.{arith}
 use mathlib.Core.List.{[], ◌∷◌, ◌++◌}
-use lib.ListN.{length, take-append-drop}
+use lib.ListN.{length, drop, length-take, take-append-drop}
+use lib.Seq.{drop_at}
 use Rattle.fields.specs.Checks.{Verdict, Passes, Fails, first_failing, then}
 use Rattle.fields.specs.Bytes.{Bytes}
 use Rattle.std.proofs.Common.{Option, Some, None}
@@ -16,6 +17,14 @@ use Rattle.sheet.specs.Sheet.{line_length, kind, kind_of, length_of, first_line,
 pub first_after : (s : Bytes) → first_line s ++ after_line s ≡ s
 unfolding first_line after_line
 first_after s = take-append-drop (line_length (kind s)) s
+
+pub first_fits : (s : Bytes) → length (first_line s) ≤ length s
+unfolding first_line
+first_fits s = simp length-take (omega arith)
+
+pub after_first : (s : Bytes) → drop (length (first_line s)) s ≡ after_line s
+after_first s =
+    ap (drop (length (first_line s))) (sym (first_after s)) ∙ drop_at (first_line s) (after_line s) (length (first_line s)) refl
 
 -- ---- a line's kind and its length
 

@@ -81,11 +81,13 @@ fn first_line(rest: &[u8]) -> &[u8]
     slices::part_at(rest, 0, line_length(rest))
 }
 
-// What follows the line that bytes begin with.
+// What follows the line that bytes begin with: all behind its end, so that a walk works out one length for each line.
+#[tactic(auto, using(crate::proofs::LineLaws::first_fits))]
 fn after_line(rest: &[u8]) -> &[u8]
     ensures { result.now ≡ after_line rest.now }
 {
-    slices::part_at(rest, line_length(rest), rest.len())
+    let line = first_line(rest);
+    &rest[line.len()..]
 }
 
 // The lines of a sheet that are left, of which there are at most `left`.
