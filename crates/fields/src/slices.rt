@@ -25,8 +25,8 @@ pub fn same_bytes(a: &[u8], b: &[u8]) -> bool
     a == b
 }
 
-// Zeroes n bytes from a place on, one by one: the library's `fill` writes the last byte by itself, so that a text of 16
-// or 32 bytes takes a shorter and slower call of C's memset, and a store more.
+// Zeroes n bytes from a place on, one by one: the library's `fill` writes the last byte by itself, so that each text of
+// a record takes a store beside its call of C's memset.
 #[tactic(auto, using(crate::proofs::StoreLaws::zeroing))]
 pub fn zero(dst: &mut [u8], at: usize, n: usize)
     ensures { dst.new ≡ sets dst.old at (zeros n) }
